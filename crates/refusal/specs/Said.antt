@@ -1,0 +1,28 @@
+-- What each case of the enum says: the number and the places of the table. Assumes nothing.
+use mathlib.Core.List.{List}
+use Rattle.rules.specs.Refusal as rules
+use Rattle.rules.specs.Refusal.{refuse, Check as Test, Passes, Fault}
+use Rattle.refusal.specs.declared.Refusal.{Refusal}
+use Rattle.refusal.specs.declared.Refusal.the-variants.{Length, Check, Kind, Reach, Corners, Same, Fold, Meet, Clockwise, Short, NotNumber, Beyond, OffGrid}
+use Rattle.refusal.specs.declared.Checked.{Checked}
+use Rattle.refusal.specs.declared.Checked.the-variants.{Good, Refused}
+
+abbrev pub said : Refusal → rules.Refusal
+said Length = refuse 1 0 0
+said Check = refuse 2 0 0
+said (Kind a) = refuse 3 a 0
+said (Reach a) = refuse 4 a 0
+said Corners = refuse 5 0 0
+said (Same a) = refuse 6 a 0
+said (Fold a) = refuse 7 a 0
+said (Meet a b) = refuse 8 a b
+said Clockwise = refuse 9 0 0
+said Short = refuse 10 0 0
+said (NotNumber a b) = refuse 11 a b
+said (Beyond a b) = refuse 12 a b
+said (OffGrid a b) = refuse 13 a b
+
+-- what checks find: all pass, or the first fault
+abbrev pub Finds : List Test → Checked → Type 0
+Finds cs Good = Passes cs
+Finds cs (Refused r) = Fault cs (said r)

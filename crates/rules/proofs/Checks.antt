@@ -1,0 +1,73 @@
+-- At most one refusal is the first fault, and none where every check passes. Assumes nothing.
+use mathlib.Core.Path.{_≡_, refl, sym, ap, _∙_}
+use mathlib.Core.Logic.{_⊎_, inl, inr, ⊎-elim}
+use mathlib.Core.List.{List, [], _∷_, _++_}
+use Prim.Native.Nat.{ℕ, zero, suc, _≤_, _<_}
+use native.Mathlib.Omega.{arith}
+use Rattle.whole.proofs.Order.{ℕ-or}
+use Rattle.rules.specs.Refusal.{Refusal, Check, Passes, Fault, demand, First, each}
+
+-- ---- the first of several
+-- the same index, from what rules out an earlier one each way
+pub only : (i j : ℕ) → (i < j → ⊥) → (j < i → ⊥) → i ≡ j
+only i j f g = ⊎-elim (λ (h : i ≤ j). ⊎-elim (λ (k : j ≤ i). (omega arith)) (λ (k : i < j). absurd (f k)) (ℕ-or j i)) (λ (h : j < i). absurd (g h)) (ℕ-or i j)
+
+pub first-one : (Bad : ℕ → Type 0) (n i j : ℕ) → First Bad n i → First Bad n j → i ≡ j
+first-one Bad n i j f g = only i j (λ h. g .before i h (f .bad)) (λ h. f .before j h (g .bad))
+
+-- ---- one check
+-- it does not pass and fail, and fails in one way
+pub record Sharp (c : Check) : Type 0 where
+  pub never : (r : Refusal) → c .passes → c .fails r → ⊥
+  pub one : (r s : Refusal) → c .fails r → c .fails s → r ≡ s
+
+pub sharp-demand : (P : Type 0) (r : Refusal) → Sharp (demand P r)
+sharp-demand P r = record { never = λ s h f. f .0 h; one = λ s t f g. f .1 ∙ sym (g .1) }
+
+pub sharp-each : (Bad : ℕ → Type 0) (n : ℕ) (r : ℕ → Refusal) → Sharp (each Bad n r)
+sharp-each Bad n r = record {
+  never = λ s h f. h (f .0) (f .1 .below) (f .1 .bad);
+  one = λ s t f g. f .2 ∙ ap r (first-one Bad n (f .0) (g .0) (f .1) (g .1)) ∙ sym (g .2);
+}
+
+-- ---- all of them
+abbrev pub AllSharp : List Check → Type 0
+AllSharp [] = Unit {0}
+AllSharp (c ∷ cs) = Sharp c × AllSharp cs
+
+pub never-both : (cs : List Check) → AllSharp cs → (r : Refusal) → Passes cs → Fault cs r → ⊥
+never-both [] a r p f = f
+never-both (c ∷ cs) a r p f = ⊎-elim (λ g. a .0 .never r (p .0) g) (λ g. never-both cs (a .1) r (p .1) (g .1)) f
+
+pub one-fault : (cs : List Check) → AllSharp cs → (r s : Refusal) → Fault cs r → Fault cs s → r ≡ s
+one-fault [] a r s f g = absurd f
+one-fault (c ∷ cs) a r s f g =
+    ⊎-elim
+    (λ h. ⊎-elim (λ k. a .0 .one r s h k) (λ k. absurd (a .0 .never r (k .0) h)) g)
+    (λ h. ⊎-elim (λ k. absurd (a .0 .never s (h .0) k)) (λ k. one-fault cs (a .1) r s (h .1) (k .1)) g)
+    f
+
+pub sharp-append : (cs ds : List Check) → AllSharp cs → AllSharp ds → AllSharp (cs ++ ds)
+sharp-append [] ds a b = b
+sharp-append (c ∷ cs) ds a b = (a .0, sharp-append cs ds (a .1) b)
+
+-- checks in a row: those of the second list are made where the first passes
+pub passes-append : (cs ds : List Check) → Passes cs → Passes ds → Passes (cs ++ ds)
+passes-append [] ds p q = q
+passes-append (c ∷ cs) ds p q = (p .0, passes-append cs ds (p .1) q)
+
+pub fault-left : (cs ds : List Check) (r : Refusal) → Fault cs r → Fault (cs ++ ds) r
+fault-left [] ds r f = absurd f
+fault-left (c ∷ cs) ds r f = ⊎-elim (λ h. inl h) (λ h. inr (h .0, fault-left cs ds r (h .1))) f
+
+pub fault-right : (cs ds : List Check) (r : Refusal) → Passes cs → Fault ds r → Fault (cs ++ ds) r
+fault-right [] ds r p f = f
+fault-right (c ∷ cs) ds r p f = inr (p .0, fault-right cs ds r (p .1) f)
+
+pub passes-left : (cs ds : List Check) → Passes (cs ++ ds) → Passes cs
+passes-left [] ds p = tt
+passes-left (c ∷ cs) ds p = (p .0, passes-left cs ds (p .1))
+
+pub passes-right : (cs ds : List Check) → Passes (cs ++ ds) → Passes ds
+passes-right [] ds p = p
+passes-right (c ∷ cs) ds p = passes-right cs ds (p .1)

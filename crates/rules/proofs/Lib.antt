@@ -1,0 +1,6 @@
+pub mod Ring
+pub mod Segment
+pub mod Crossing
+pub mod Checks
+pub mod Good
+pub mod Verdict

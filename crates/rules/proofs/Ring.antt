@@ -1,0 +1,25 @@
+-- The way round a ring. Assumes nothing.
+use mathlib.Core.Path.{_≡_, refl}
+use mathlib.Core.Logic.{_⊎_, inl, inr, ⊎-elim}
+use Prim.Native.Nat.{ℕ, zero, suc, _≤_, _<_}
+use native.Mathlib.Omega.{arith}
+use Rattle.whole.proofs.Order.{ℕ-or}
+use Rattle.whole.proofs.Flag.{eq-self, lt-not-eq}
+use Rattle.rules.specs.Ring.{next}
+
+pub next-inner : (n i : ℕ) → suc i < n → next n i ≡ suc i
+unfolding next
+next-inner n i h = rw (lt-not-eq (suc i) n h)
+
+pub next-last : (n : ℕ) → next (suc n) n ≡ 0
+unfolding next
+next-last n = rw (eq-self (suc n))
+
+-- one after, or back at 0
+pub next-ways : (n i : ℕ) → i < n → ((suc i < n) × (next n i ≡ suc i)) ⊎ ((suc i ≡ n) × (next n i ≡ 0))
+next-ways n i h =
+    ⊎-elim (λ (l : n ≤ suc i). let e : suc i ≡ n = omega arith in inr (e, rw (← e) (next-last i))) (λ (l : suc i < n). inl (l, next-inner n i l))
+    (ℕ-or n (suc i))
+
+pub next-below : (n i : ℕ) → i < n → next n i < n
+next-below n i h = ⊎-elim (λ w. rw (w .1) (w .0)) (λ w. rw (w .1) (omega arith)) (next-ways n i h)

@@ -1,0 +1,22 @@
+-- At most one answer is the verdict. Assumes nothing.
+use mathlib.Core.Path.{_≡_, refl, ap}
+use Prim.Native.Nat.{ℕ}
+use lib.IntN.{pos, _+ℤ_}
+use lib.Signed.{_≤ℤ_}
+use Rattle.whole.specs.Fraction.{mark}
+use Rattle.whole.proofs.Fraction.{less, lt-then-le, marks}
+use Rattle.whole.proofs.Order.{antisym}
+use Rattle.rules.specs.Reach.{Run, Piece}
+use Rattle.rules.specs.Verdict.{Answer, clear, blocked, Mark, Verdict}
+
+no-earlier : (r : Run) (p : Piece) (j k : ℕ) → Mark r p j → Mark r p k → pos j ≤ℤ pos k
+no-earlier r p j k f g = marks (pos j) (pos k) (less (mark (pos j)) (mark (pos k +ℤ pos 1)) (λ h. f .before (g .when) (g .moment) (lt-then-le (g .when) (mark (pos k +ℤ pos 1)) (mark (pos j)) (g .within .high) h) (g .contact)))
+
+pub one-verdict : (r : Run) (p : Piece) (a b : Answer) → Verdict r p a → Verdict r p b → a ≡ b
+one-verdict r p clear clear f g = refl
+one-verdict r p clear (blocked k) f g = absurd (f (g .when) (g .moment) (g .contact))
+one-verdict r p (blocked k) clear f g = absurd (g (f .when) (f .moment) (f .contact))
+one-verdict r p (blocked j) (blocked k) f g = ap blocked (same j k (antisym _ _ (no-earlier r p j k f g) (no-earlier r p k j g f)))
+  where
+    same : (j k : ℕ) → pos j ≡ pos k → j ≡ k
+    same j k e = cc

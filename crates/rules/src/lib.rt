@@ -1,0 +1,1 @@
+// The definitions of the shadow baker. No code: see specs/ and proofs/.

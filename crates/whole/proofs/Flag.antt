@@ -1,0 +1,67 @@
+-- Flags and what they say. Assumes nothing.
+use mathlib.Core.Path.{_≡_, refl, sym, subst}
+use mathlib.Core.Logic.{_⊎_, inl, inr}
+use mathlib.Core.Bool.{Bool, true, false, not}
+use Prim.Native.Nat.{ℕ, _<_, _≤_}
+use native.Mathlib.Omega.{arith}
+use lib.Dec.{T, eqb, eqb→eq, eqb-refl}
+use lib.IntN.{ℤ}
+use lib.Signed.{_≤ℤ_, _<ℤ_, leZ, ltZ, ltZ-no}
+use Rattle.whole.proofs.Order.{not-le, clash, lt-le}
+
+pub is-true : (t : Bool) → T t → t ≡ true
+is-true true h = refl
+is-true false h = absurd h
+
+pub is-false : (t : Bool) → (T t → ⊥) → t ≡ false
+is-false true f = absurd (f tt)
+is-false false f = refl
+
+pub yes-of : (t : Bool) → t ≡ true → T t
+yes-of t e = subst T (sym e) tt
+
+pub no-of : (t : Bool) → t ≡ false → T t → ⊥
+no-of t e h = subst T e h
+
+-- two flags that say the same are equal
+pub same-flag : (s t : Bool) → (T s → T t) → (T t → T s) → s ≡ t
+same-flag true true f g = refl
+same-flag true false f g = absurd (f tt)
+same-flag false true f g = absurd (g tt)
+same-flag false false f g = refl
+
+pub decided : (t : Bool) → (t ≡ true) ⊎ (t ≡ false)
+decided true = inl refl
+decided false = inr refl
+
+-- ---- numbers
+pub eq-self : (n : ℕ) → eqb n n ≡ true
+eq-self n = is-true (eqb n n) (eqb-refl n)
+
+pub lt-not-eq : (k n : ℕ) → k < n → eqb k n ≡ false
+lt-not-eq k n l = is-false (eqb k n) (λ t. let e = eqb→eq k n t in omega arith)
+
+-- ---- whole numbers
+pub lt-true : (a b : ℤ) → ltZ a b ≡ true → a <ℤ b
+lt-true a b e = record { lt = yes-of (ltZ a b) e }
+
+pub lt-false : (a b : ℤ) → ltZ a b ≡ false → b ≤ℤ a
+lt-false a b e = ltZ-no (subst (λ (t : Bool). T (not t)) (sym e) tt)
+
+pub le-true : (a b : ℤ) → leZ a b ≡ true → a ≤ℤ b
+le-true a b e = record { le = yes-of (leZ a b) e }
+
+pub le-false : (a b : ℤ) → leZ a b ≡ false → b <ℤ a
+le-false a b e = not-le b a (λ h. no-of (leZ a b) e (h .le))
+
+pub true-lt : (a b : ℤ) → a <ℤ b → ltZ a b ≡ true
+true-lt a b h = is-true (ltZ a b) (h .lt)
+
+pub false-lt : (a b : ℤ) → b ≤ℤ a → ltZ a b ≡ false
+false-lt a b h = is-false (ltZ a b) (λ t. clash a b (record { lt = t }) h)
+
+pub true-le : (a b : ℤ) → a ≤ℤ b → leZ a b ≡ true
+true-le a b h = is-true (leZ a b) (h .le)
+
+pub false-le : (a b : ℤ) → b <ℤ a → leZ a b ≡ false
+false-le a b h = is-false (leZ a b) (λ t. clash b a h (record { le = t }))

@@ -1,0 +1,55 @@
+-- The order of fractions: total, transitive, the same however a fraction is written; and 256 t rounded down. Assumes nothing.
+use mathlib.Core.Path.{_≡_, sym}
+use mathlib.Core.Logic.{_⊎_, ⊎-elim}
+use native.Mathlib.Omega.{arith}
+use lib.IntN.{ℤ, pos, _+ℤ_, _*ℤ_, *ℤ-comm}
+use lib.Signed.{_≤ℤ_, _<ℤ_, quotZ}
+use Rattle.whole.specs.Fraction.{Frac, _≼_, _≺_, mark, Floor}
+use Rattle.whole.proofs.Difference.{all2, ring}
+use Rattle.whole.proofs.Order.{le-or-lt, le-trans, lt-le, clash, antisym, mul-mono, cancel, nn-mul}
+use Rattle.whole.proofs.Polynomial.{vars3, poly, by-ring}
+use Rattle.whole.proofs.Range.{quot}
+
+-- ---- order
+pub total : (s t : Frac) → (s ≼ t) ⊎ (t ≺ s)
+total s t = le-or-lt (s .num *ℤ t .den) (t .num *ℤ s .den)
+
+swap3 : (a b c : ℤ) → (a *ℤ b) *ℤ c ≡ (a *ℤ c) *ℤ b
+swap3 = vars3 _ λ ρ. simp poly (by-ring _ _ _ tt)
+
+pub trans : (s t u : Frac) → s ≼ t → t ≼ u → s ≼ u
+trans s t u h k =
+    cancel _ _ (t .den) (t .some)
+    (rw (swap3 (s .num) (u .den) (t .den), swap3 (u .num) (s .den) (t .den))
+    (le-trans _ _ _ (mul-mono _ _ (u .den) h (lt-le _ _ (u .some))) (rw (swap3 (t .num) (s .den) (u .den)) (mul-mono _ _ (s .den) k (lt-le _ _ (s .some))))))
+
+pub less : (s t : Frac) → (t ≼ s → ⊥) → s ≺ t
+less s t f = ⊎-elim (λ h. absurd (f h)) (λ h. h) (total t s)
+
+pub apart : (s t : Frac) → s ≺ t → t ≼ s → ⊥
+apart s t h k = clash _ _ h k
+
+pub le-then-lt : (s t u : Frac) → s ≼ t → t ≺ u → s ≺ u
+le-then-lt s t u h k = less s u (λ l. apart t u k (trans u s t l h))
+
+pub lt-then-le : (s t u : Frac) → s ≺ t → t ≼ u → s ≺ u
+lt-then-le s t u h k = less s u (λ l. apart s t h (trans t u s k l))
+
+-- ---- rounding down
+pub marks : (j k : ℤ) → mark j ≺ mark (k +ℤ pos 1) → j ≤ℤ k
+marks = all2 _ λ a a′ b b′. simp ring (omega arith)
+
+-- an earlier moment has no later mark
+pub floor-mono : (j k : ℤ) (s t : Frac) → Floor j s → Floor k t → s ≼ t → j ≤ℤ k
+floor-mono j k s t f g h = marks j k (le-then-lt (mark j) s (mark (k +ℤ pos 1)) (f .low) (le-then-lt s t (mark (k +ℤ pos 1)) h (g .high)))
+
+-- at most one
+pub floor-one : (j k : ℤ) (t : Frac) → Floor j t → Floor k t → j ≡ k
+floor-one j k t f g =
+    antisym j k (marks j k (le-then-lt (mark j) t (mark (k +ℤ pos 1)) (f .low) (g .high))) (marks k j (le-then-lt (mark k) t (mark (j +ℤ pos 1)) (g .low) (f .high)))
+
+-- and one, for a moment at or after 0: the quotient that a division gives
+pub floor-is : (t : Frac) → pos 0 ≤ℤ t .num → Floor (quotZ (pos 256 *ℤ t .num) (t .den)) t
+floor-is t h =
+    let q = quot (pos 256 *ℤ t .num) (t .den) (nn-mul (pos 256) (t .num) (record { le = tt }) h) (t .some) in
+    record { low = rw (*ℤ-comm (t .num) (pos 256)) (q .low); high = rw (*ℤ-comm (t .num) (pos 256)) (q .high) }

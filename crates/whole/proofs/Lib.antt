@@ -1,0 +1,6 @@
+pub mod Difference
+pub mod Order
+pub mod Flag
+pub mod Polynomial
+pub mod Range
+pub mod Fraction
