@@ -4,3 +4,5 @@ pub mod Crossing
 pub mod Checks
 pub mod Good
 pub mod Verdict
+pub mod On
+pub mod Share
