@@ -6,3 +6,6 @@ pub mod Good
 pub mod Verdict
 pub mod On
 pub mod Share
+pub mod Counted
+pub mod Place
+pub mod Contact

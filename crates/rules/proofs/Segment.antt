@@ -6,7 +6,7 @@ use lib.IntN.{ℤ, pos, negsuc, negℤ, _+ℤ_, _-ℤ_, _*ℤ_, +ℤ-invr}
 use lib.Signed.{_≤ℤ_, _<ℤ_}
 use Rattle.whole.proofs.Difference.{all, all2, all3, all4, ring}
 use Rattle.whole.proofs.Polynomial.{vars4, vars6, vars7, vars8, vars10, poly, num-val, by-ring}
-use Rattle.whole.proofs.Order.{np-mul, pos-mul, le-sub, lt-sub, lt-le, le-or-lt, antisym}
+use Rattle.whole.proofs.Order.{np-mul, pos-mul, le-sub, lt-sub, lt-le, le-or-lt, Tri, less, same, more, tri}
 use Rattle.rules.specs.Ring.{Pt}
 
 -- twice the side of a b p, positive where p is to the left of a → b
@@ -120,14 +120,6 @@ apart a b p q (below h i j k) c = means (c .n) (c .i) (c .j) (a .y) (b .y) (p .y
 apart a b p q (above h i j k) c = means (c .n) (c .j) (c .i) (p .y) (q .y) (a .y) (b .y) (c .some) (c .j-low) (c .j-high) (c .i-low) (c .i-high) (sym (c .y)) h j i k
 apart a b p q (before h i j k) c = means (c .n) (c .i) (c .j) (a .x) (b .x) (p .x) (q .x) (c .some) (c .i-low) (c .i-high) (c .j-low) (c .j-high) (c .x) h i j k
 apart a b p q (behind h i j k) c = means (c .n) (c .j) (c .i) (p .x) (q .x) (a .x) (b .x) (c .some) (c .j-low) (c .j-high) (c .i-low) (c .i-high) (sym (c .x)) h j i k
-
-data Tri (u v : ℤ) : Type 0 where
-  less : u <ℤ v → Tri u v
-  same : u ≡ v → Tri u v
-  more : v <ℤ u → Tri u v
-
-tri : (u v : ℤ) → Tri u v
-tri u v = ⊎-elim (λ h. ⊎-elim (λ k. same (antisym u v h k)) less (le-or-lt v u)) more (le-or-lt u v)
 
 -- where w lies by the range of u and v
 data Loc (u v w : ℤ) : Type 0 where

@@ -23,6 +23,9 @@ yes-of t e = subst T (sym e) tt
 pub no-of : (t : Bool) → t ≡ false → T t → ⊥
 no-of t e h = subst T e h
 
+pub false-true : false ≡ true → ⊥
+false-true e = subst T (sym e) tt
+
 -- two flags that say the same are equal
 pub same-flag : (s t : Bool) → (T s → T t) → (T t → T s) → s ≡ t
 same-flag true true f g = refl

@@ -6,7 +6,7 @@ use lib.IntN.{ℤ, pos, _+ℤ_, _*ℤ_, *ℤ-comm}
 use lib.Signed.{_≤ℤ_, _<ℤ_, quotZ}
 use Rattle.whole.specs.Fraction.{Frac, _≼_, _≺_, mark, Floor}
 use Rattle.whole.proofs.Difference.{all2, ring}
-use Rattle.whole.proofs.Order.{le-or-lt, le-trans, lt-le, clash, antisym, mul-mono, cancel, nn-mul}
+use Rattle.whole.proofs.Order.{le-or-lt, le-trans, lt-le, clash, antisym, eq-le, mul-mono, cancel, nn-mul, pos-mul}
 use Rattle.whole.proofs.Polynomial.{vars3, poly, by-ring}
 use Rattle.whole.proofs.Range.{quot}
 
@@ -34,6 +34,19 @@ le-then-lt s t u h k = less s u (λ l. apart t u k (trans u s t l h))
 
 pub lt-then-le : (s t u : Frac) → s ≺ t → t ≼ u → s ≺ u
 lt-then-le s t u h k = less s u (λ l. apart s t h (trans t u s k l))
+
+-- ---- written with c times the numbers
+abbrev pub scaled : (c : ℤ) → pos 0 <ℤ c → Frac → Frac
+scaled c l t = record { num = c *ℤ t .num; den = c *ℤ t .den; some = pos-mul c (t .den) l (t .some) }
+
+cross : (c n d : ℤ) → (c *ℤ n) *ℤ d ≡ n *ℤ (c *ℤ d)
+cross = vars3 _ λ ρ. simp poly (by-ring _ _ _ tt)
+
+pub scaled-le : (c : ℤ) (l : pos 0 <ℤ c) (t : Frac) → scaled c l t ≼ t
+scaled-le c l t = eq-le _ _ (cross c (t .num) (t .den))
+
+pub le-scaled : (c : ℤ) (l : pos 0 <ℤ c) (t : Frac) → t ≼ scaled c l t
+le-scaled c l t = eq-le _ _ (sym (cross c (t .num) (t .den)))
 
 -- ---- rounding down
 pub marks : (j k : ℤ) → mark j ≺ mark (k +ℤ pos 1) → j ≤ℤ k

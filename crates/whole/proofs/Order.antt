@@ -53,6 +53,15 @@ clash = all2 _ λ a a′ b b′. simp ring (omega arith)
 pub antisym : (a b : ℤ) → a ≤ℤ b → b ≤ℤ a → a ≡ b
 antisym = all2 _ λ a a′ b b′. simp ring (omega arith)
 
+-- less, the same or more
+pub data Tri (u v : ℤ) : Type 0 where
+  less : u <ℤ v → Tri u v
+  same : u ≡ v → Tri u v
+  more : v <ℤ u → Tri u v
+
+pub tri : (u v : ℤ) → Tri u v
+tri u v = ⊎-elim (λ h. ⊎-elim (λ k. same (antisym u v h k)) less (le-or-lt v u)) more (le-or-lt u v)
+
 pub le-trans : (a b c : ℤ) → a ≤ℤ b → b ≤ℤ c → a ≤ℤ c
 le-trans = all3 _ λ a a′ b b′ c c′. simp ring (omega arith)
 
@@ -137,8 +146,8 @@ neg-mul a b h k = flip a b (pos-mul (negℤ a) (negℤ b) (turn-lt a h) (turn-lt
 pub cancel-lt : (a b c : ℤ) → pos 0 <ℤ c → (a *ℤ c) <ℤ (b *ℤ c) → a <ℤ b
 cancel-lt a b c k h = not-le a b (λ q. clash _ _ h (mul-mono b a c q (lt-le _ _ k)))
 
+pub eq-le : (a b : ℤ) → a ≡ b → a ≤ℤ b
+eq-le = all2 _ λ a a′ b b′. simp ring (omega arith)
+
 pub cancel-eq : (a b c : ℤ) → pos 0 <ℤ c → a *ℤ c ≡ b *ℤ c → a ≡ b
 cancel-eq a b c k h = antisym a b (cancel a b c k (eq-le _ _ h)) (cancel b a c k (eq-le _ _ (sym h)))
-  where
-    eq-le : (x y : ℤ) → x ≡ y → x ≤ℤ y
-    eq-le = all2 _ λ a a′ b b′. simp ring (omega arith)

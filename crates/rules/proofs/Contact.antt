@@ -1,0 +1,114 @@
+-- Contact does not depend on how a moment is written, and is a question of the relative motion alone. Assumes nothing.
+use mathlib.Core.Path.{_≡_, sym, subst, _∙_}
+use mathlib.Core.HLevel.{isProp→PathP}
+use mathlib.Core.Logic.{_⊎_, inl, inr, ⊎-elim}
+use lib.Dec.{T-prop}
+use lib.IntN.{ℤ, pos, _+ℤ_, _-ℤ_, _*ℤ_, *ℤ-comm}
+use lib.Signed.{_≤ℤ_, _<ℤ_, ltZ}
+use Rattle.whole.specs.Fraction.{Frac, _≼_, whole}
+use Rattle.whole.proofs.Fraction.{scaled, trans}
+use Rattle.whole.proofs.Order.{eq-le, mul-mono, cancel, lt-le}
+use Rattle.whole.proofs.Polynomial.{vars4, vars5, poly, num-val, by-ring}
+use Rattle.rules.specs.Reach.{Run, Piece}
+use Rattle.rules.specs.Ring.{Pt, times, Ring}
+use Rattle.rules.specs.Ring as corners
+use Rattle.rules.specs.Place.{Where, on, inside, Place}
+use Rattle.rules.specs.Contact.{Moment, along, pointAt, ringAt, InBand, Contact}
+use Rattle.rules.proofs.On.{move}
+use Rattle.rules.proofs.Share.{pt-eq}
+use Rattle.rules.proofs.Place.{moved, place-moved, place-unmoved}
+
+origin : Pt
+origin = record { x = pos 0; y = pos 0 }
+
+-- ---- the same moment with c times the numbers
+along-scaled : (c d n p v : ℤ) → c *ℤ (d *ℤ p +ℤ n *ℤ v) +ℤ pos 0 ≡ (c *ℤ d) *ℤ p +ℤ (c *ℤ n) *ℤ v
+along-scaled = vars5 _ λ ρ. simp (poly, num-val ρ) (by-ring _ _ _ tt)
+
+module _ (r : Run) (k : Piece) (c : ℤ) (l : pos 0 <ℤ c) (t : Frac) where
+  point-scaled : move c origin (pointAt r t) ≡ pointAt r (scaled c l t)
+  unfolding origin
+  point-scaled = pt-eq _ _ (along-scaled c (t .den) (t .num) (r .start .x) (r .speed .x)) (along-scaled c (t .den) (t .num) (r .start .y) (r .speed .y))
+
+  ring-scaled : moved c origin l (ringAt k t) ≡ ringAt k (scaled c l t)
+  unfolding origin
+  ring-scaled = λ j. record { size = ringAt k t .size; at = λ i. pt-eq (move c origin (ringAt k t .at i)) (ringAt k (scaled c l t) .at i) (along-scaled c (t .den) (t .num) (corners.ring (k .corners) .at i .x) (k .speed .x)) (along-scaled c (t .den) (t .num) (corners.ring (k .corners) .at i .y) (k .speed .y)) j }
+
+  pub place-scaled : (w : Where) → Place (ringAt k t) (pointAt r t) w → Place (ringAt k (scaled c l t)) (pointAt r (scaled c l t)) w
+  place-scaled w h = subst (λ (q : Ring). Place q (pointAt r (scaled c l t)) w) ring-scaled (subst (λ (p : Pt). Place (moved c origin l (ringAt k t)) p w) point-scaled (place-moved c origin l (ringAt k t) (pointAt r t) w h))
+
+  pub place-unscaled : (w : Where) → Place (ringAt k (scaled c l t)) (pointAt r (scaled c l t)) w → Place (ringAt k t) (pointAt r t) w
+  place-unscaled w h = place-unmoved c origin l (ringAt k t) (pointAt r t) w (subst (λ (p : Pt). Place (moved c origin l (ringAt k t)) p w) (sym point-scaled) (subst (λ (q : Ring). Place q (pointAt r (scaled c l t)) w) (sym ring-scaled) h))
+
+turned : (c d n p v : ℤ) → (d *ℤ p +ℤ n *ℤ v) *ℤ c ≡ (c *ℤ d) *ℤ p +ℤ (c *ℤ n) *ℤ v
+turned = vars5 _ λ ρ. simp poly (by-ring _ _ _ tt)
+
+le-scaled : (c d n p v q w : ℤ) → pos 0 <ℤ c → (d *ℤ p +ℤ n *ℤ v) ≤ℤ (d *ℤ q +ℤ n *ℤ w) → ((c *ℤ d) *ℤ p +ℤ (c *ℤ n) *ℤ v) ≤ℤ ((c *ℤ d) *ℤ q +ℤ (c *ℤ n) *ℤ w)
+le-scaled c d n p v q w l h = rw (← turned c d n p v, ← turned c d n q w) (mul-mono _ _ c h (lt-le _ _ l))
+
+le-unscaled : (c d n p v q w : ℤ) → pos 0 <ℤ c → ((c *ℤ d) *ℤ p +ℤ (c *ℤ n) *ℤ v) ≤ℤ ((c *ℤ d) *ℤ q +ℤ (c *ℤ n) *ℤ w) → (d *ℤ p +ℤ n *ℤ v) ≤ℤ (d *ℤ q +ℤ n *ℤ w)
+le-unscaled c d n p v q w l h = cancel _ _ c l (rw (turned c d n p v, turned c d n q w) h)
+
+module _ (r : Run) (k : Piece) (c : ℤ) (l : pos 0 <ℤ c) (t : Frac) where
+  pub contact-scaled : Contact r k t → Contact r k (scaled c l t)
+  contact-scaled h = record {
+    place = ⊎-elim (λ p. inl (place-scaled r k c l t on p)) (λ p. inr (place-scaled r k c l t inside p)) (h .place);
+    band = record { bottom = le-scaled c (t .den) (t .num) _ _ _ _ l (h .band .bottom); top = le-scaled c (t .den) (t .num) _ _ _ _ l (h .band .top) };
+  }
+
+  pub contact-unscaled : Contact r k (scaled c l t) → Contact r k t
+  contact-unscaled h = record {
+    place = ⊎-elim (λ p. inl (place-unscaled r k c l t on p)) (λ p. inr (place-unscaled r k c l t inside p)) (h .place);
+    band = record { bottom = le-unscaled c (t .den) (t .num) _ _ _ _ l (h .band .bottom); top = le-unscaled c (t .den) (t .num) _ _ _ _ l (h .band .top) };
+  }
+
+-- ---- the same moment however it is written
+lt-prop : (a b : ℤ) → IsProp (a <ℤ b)
+lt-prop a b x y = λ i. record { lt = T-prop (ltZ a b) (x .lt) (y .lt) i }
+
+frac-eq : (s t : Frac) → s .num ≡ t .num → s .den ≡ t .den → s ≡ t
+frac-eq s t e f = λ i. record { num = e i; den = f i; some = isProp→PathP (λ j. pos 0 <ℤ f j) (λ j. lt-prop (pos 0) (f j)) (s .some) (t .some) i }
+
+-- equal fractions meet at the product of their denominators
+common : (s t : Frac) → s .num *ℤ t .den ≡ t .num *ℤ s .den → scaled (t .den) (t .some) s ≡ scaled (s .den) (s .some) t
+common s t e = frac-eq _ _ (*ℤ-comm (t .den) (s .num) ∙ e ∙ *ℤ-comm (t .num) (s .den)) (*ℤ-comm (t .den) (s .den))
+
+pub same-contact : (r : Run) (k : Piece) (s t : Frac) → s .num *ℤ t .den ≡ t .num *ℤ s .den → Contact r k s → Contact r k t
+same-contact r k s t e h = contact-unscaled r k (s .den) (s .some) t (subst (λ (u : Frac). Contact r k u) (common s t e) (contact-scaled r k (t .den) (t .some) s h))
+
+pub same-moment : (r : Run) (s t : Frac) → s .num *ℤ t .den ≡ t .num *ℤ s .den → Moment r s → Moment r t
+same-moment r s t e h = record { from = trans (whole (pos 0)) s t (h .from) (eq-le _ _ e); to = trans t s (whole (pos (r .ticks))) (eq-le _ _ (sym e)) (h .to) }
+
+-- ---- relative motion: the footprint stands, the point runs at the difference of the velocities
+abbrev pub standing : ℤ → Ring → Ring
+standing d r = record { size = r .size; at = λ i. times d (r .at i) }
+
+abbrev pub relative : Run → Piece → Frac → Pt
+relative r k t = record { x = along t (r .start .x) (r .speed .x -ℤ k .speed .x); y = along t (r .start .y) (r .speed .y -ℤ k .speed .y) }
+
+drift : Piece → Frac → Pt
+drift k t = record { x = t .num *ℤ k .speed .x; y = t .num *ℤ k .speed .y }
+
+run-drift : (d n p v u : ℤ) → pos 1 *ℤ (d *ℤ p +ℤ n *ℤ (v -ℤ u)) +ℤ n *ℤ u ≡ d *ℤ p +ℤ n *ℤ v
+run-drift = vars5 _ λ ρ. simp (poly, num-val ρ) (by-ring _ _ _ tt)
+
+corner-drift : (d n c u : ℤ) → pos 1 *ℤ (d *ℤ c) +ℤ n *ℤ u ≡ d *ℤ c +ℤ n *ℤ u
+corner-drift = vars4 _ λ ρ. simp (poly, num-val ρ) (by-ring _ _ _ tt)
+
+one : pos 0 <ℤ pos 1
+one = record { lt = tt }
+
+module _ (r : Run) (k : Piece) (t : Frac) where
+  point-relative : move (pos 1) (drift k t) (relative r k t) ≡ pointAt r t
+  unfolding drift
+  point-relative = pt-eq _ _ (run-drift (t .den) (t .num) (r .start .x) (r .speed .x) (k .speed .x)) (run-drift (t .den) (t .num) (r .start .y) (r .speed .y) (k .speed .y))
+
+  ring-relative : moved (pos 1) (drift k t) one (standing (t .den) (corners.ring (k .corners))) ≡ ringAt k t
+  unfolding drift
+  ring-relative = λ j. record { size = ringAt k t .size; at = λ i. pt-eq (move (pos 1) (drift k t) (times (t .den) (corners.ring (k .corners) .at i))) (ringAt k t .at i) (corner-drift (t .den) (t .num) (corners.ring (k .corners) .at i .x) (k .speed .x)) (corner-drift (t .den) (t .num) (corners.ring (k .corners) .at i .y) (k .speed .y)) j }
+
+  pub place-relative : (w : Where) → Place (standing (t .den) (corners.ring (k .corners))) (relative r k t) w → Place (ringAt k t) (pointAt r t) w
+  place-relative w h = subst (λ (q : Ring). Place q (pointAt r t) w) ring-relative (subst (λ (p : Pt). Place (moved (pos 1) (drift k t) one (standing (t .den) (corners.ring (k .corners)))) p w) point-relative (place-moved (pos 1) (drift k t) one (standing (t .den) (corners.ring (k .corners))) (relative r k t) w h))
+
+  pub relative-place : (w : Where) → Place (ringAt k t) (pointAt r t) w → Place (standing (t .den) (corners.ring (k .corners))) (relative r k t) w
+  relative-place w h = place-unmoved (pos 1) (drift k t) one (standing (t .den) (corners.ring (k .corners))) (relative r k t) w (subst (λ (p : Pt). Place (moved (pos 1) (drift k t) one (standing (t .den) (corners.ring (k .corners)))) p w) (sym point-relative) (subst (λ (q : Ring). Place q (pointAt r t) w) (sym ring-relative) h))

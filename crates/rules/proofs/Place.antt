@@ -1,0 +1,169 @@
+-- A place is exactly one of three: on, or by the parity of the crossing flags; scaling and shifting all do not change it. Assumes nothing.
+use mathlib.Core.Path.{_≡_, refl, sym, ap, _∙_}
+use mathlib.Core.Logic.{_⊎_, inl, inr, ⊎-elim}
+use mathlib.Core.Bool.{Bool, true, false, not}
+use Prim.Native.Nat.{ℕ, zero, suc, _%_, _≤_, _<_}
+use native.Mathlib.Omega.{arith}
+use lib.IntN.{ℤ, pos, _+ℤ_, _-ℤ_, _*ℤ_}
+use lib.Signed.{_≤ℤ_, _<ℤ_, leZ, ltZ}
+use Rattle.whole.proofs.Difference.{all2, all3, all4, ring}
+use Rattle.whole.proofs.Order.{pos-mul, mul-mono, mul-mono-lt, cancel, cancel-lt, lt-le, ℕ-or}
+use Rattle.whole.proofs.Flag.{same-flag, decided, false-true}
+use Rattle.whole.proofs.Polynomial.{vars9, poly, by-ring}
+use Rattle.rules.specs.Ring.{Pt, Ring, from, to, On}
+use Rattle.rules.specs.Place.{OnRing, Straddles, Above, Counted, Count, start, more, pass, Where, on, inside, outside, Parity, Place}
+use Rattle.rules.proofs.Segment.{o, side}
+use Rattle.rules.proofs.Crossing.{tst, xor, crosses, flag, parity, parity-ext}
+use Rattle.rules.proofs.Counted.{counted-yes, yes-counted}
+use Rattle.rules.proofs.On.{on-or-off, off-not-on, move, on-move, on-unmove}
+
+-- ---- the count and the flags
+abbrev pub bit : Bool → ℕ
+bit true = 1
+bit false = 0
+
+flipped : (k : ℕ) (t : Bool) → k % 2 ≡ bit t → suc k % 2 ≡ bit (xor t true)
+flipped k true e = omega arith
+flipped k false e = omega arith
+
+kept : (t : Bool) → xor t false ≡ t
+kept true = refl
+kept false = refl
+
+not-counted : (r : Ring) (p : Pt) (n : ℕ) → flag r p n ≡ false → Counted r p n → ⊥
+not-counted r p n e c = false-true (sym e ∙ counted-yes p (from r n) (to r n) (c .0) (c .1))
+
+-- the remainder of the count is the parity of the flags
+pub count-parity : (r : Ring) (p : Pt) (n k : ℕ) → Count r p n k → k % 2 ≡ bit (parity (flag r p) n)
+unfolding parity
+count-parity r p zero zero start = refl
+count-parity r p (suc n) (suc k) (more c h) = flipped k (parity (flag r p) n) (count-parity r p n k h) ∙ ap (λ t. bit (xor (parity (flag r p) n) t)) (sym (counted-yes p (from r n) (to r n) (c .0) (c .1)))
+count-parity r p (suc n) k (pass f h) =
+    ⊎-elim (λ e. absurd (f (yes-counted p (from r n) (to r n) e))) (λ e. count-parity r p n k h ∙ ap bit (sym (ap (λ t. xor (parity (flag r p) n) t) e ∙ kept (parity (flag r p) n))))
+    (decided (flag r p n))
+
+-- there is a count
+pub counting : (r : Ring) (p : Pt) (n : ℕ) → (k : ℕ) × Count r p n k
+counting r p zero = (zero, start)
+counting r p (suc n) =
+    ⊎-elim (λ e. (suc (counting r p n .0), more (yes-counted p (from r n) (to r n) e) (counting r p n .1))) (λ e. (counting r p n .0, pass (not-counted r p n e) (counting r p n .1)))
+    (decided (flag r p n))
+
+-- off the ring, the parity of the flags says the place
+pub parity-place : (r : Ring) (p : Pt) → (OnRing r p → ⊥) → Parity r p (bit (parity (flag r p) (r .size)))
+parity-place r p f = let c = counting r p (r .size) in record { off = f; count = c .0; counts = c .1; parity = count-parity r p (r .size) (c .0) (c .1) }
+
+pub place-parity : (r : Ring) (p : Pt) (rest : ℕ) → Parity r p rest → rest ≡ bit (parity (flag r p) (r .size))
+place-parity r p rest h = sym (h .parity) ∙ count-parity r p (r .size) (h .count) (h .counts)
+
+-- ---- exactly one of three
+on-some : (r : Ring) (p : Pt) (n : ℕ) → n ≤ r .size → OnRing r p ⊎ ((k : ℕ) → k < n → On p (from r k) (to r k) → ⊥)
+on-some r p zero h = inr (λ k l. absurd (omega arith))
+on-some r p (suc n) h =
+    ⊎-elim inl
+    (λ f. ⊎-elim (λ e. inl (record { edge = n; below = h; on = e })) (λ a. inr (λ k l. last f (off-not-on p (from r n) (to r n) a) k l)) (on-or-off p (from r n) (to r n)))
+    (on-some r p n (omega arith))
+  where
+    last : ((k : ℕ) → k < n → On p (from r k) (to r k) → ⊥) → (On p (from r n) (to r n) → ⊥) → (k : ℕ) → k < suc n → On p (from r k) (to r k) → ⊥
+    last f g k l = ⊎-elim (λ (q : n ≤ k). let e : k ≡ n = omega arith in rw e g) (λ (q : k < n). f k q) (ℕ-or n k)
+
+pub on-ring-or-off : (r : Ring) (p : Pt) → OnRing r p ⊎ (OnRing r p → ⊥)
+on-ring-or-off r p = ⊎-elim inl (λ f. inr (λ h. f (h .edge) (h .below) (h .on))) (on-some r p (r .size) (omega arith))
+
+pub some-place : (r : Ring) (p : Pt) → (w : Where) × Place r p w
+some-place r p = ⊎-elim (λ h. (on, h)) (λ f. go f (parity (flag r p) (r .size)) (parity-place r p f)) (on-ring-or-off r p)
+  where
+    go : (OnRing r p → ⊥) → (t : Bool) → Parity r p (bit t) → (w : Where) × Place r p w
+    go f true h = (inside, h)
+    go f false h = (outside, h)
+
+pub one-place : (r : Ring) (p : Pt) (v w : Where) → Place r p v → Place r p w → v ≡ w
+one-place r p on on h k = refl
+one-place r p on inside h k = absurd (k .off h)
+one-place r p on outside h k = absurd (k .off h)
+one-place r p inside on h k = absurd (h .off k)
+one-place r p inside inside h k = refl
+one-place r p inside outside h k = absurd (apart (place-parity r p 1 h) (place-parity r p 0 k))
+  where
+    apart : {n : ℕ} → 1 ≡ n → 0 ≡ n → ⊥
+    apart e f = omega arith
+one-place r p outside on h k = absurd (h .off k)
+one-place r p outside inside h k = absurd (apart (place-parity r p 0 h) (place-parity r p 1 k))
+  where
+    apart : {n : ℕ} → 0 ≡ n → 1 ≡ n → ⊥
+    apart e f = omega arith
+one-place r p outside outside h k = refl
+
+-- ---- scaled and shifted
+module _ (k : ℤ) (s : Pt) (l : pos 0 <ℤ k) where
+  le-moved : (t a b : ℤ) → leZ (k *ℤ a +ℤ t) (k *ℤ b +ℤ t) ≡ leZ a b
+  le-moved t a b =
+      same-flag _ _ (λ h. cancel a b k l (down k t a b (record { le = h })) .le) (λ h. up k t a b (mul-mono a b k (record { le = h }) (lt-le _ _ l)) .le)
+    where
+      down : (k t a b : ℤ) → (k *ℤ a +ℤ t) ≤ℤ (k *ℤ b +ℤ t) → (a *ℤ k) ≤ℤ (b *ℤ k)
+      down = all4 _ λ a a′ b b′ c c′ d d′. simp ring (omega arith)
+
+      up : (k t a b : ℤ) → (a *ℤ k) ≤ℤ (b *ℤ k) → (k *ℤ a +ℤ t) ≤ℤ (k *ℤ b +ℤ t)
+      up = all4 _ λ a a′ b b′ c c′ d d′. simp ring (omega arith)
+
+  side-moved : (k sx sy ax ay bx by px py : ℤ) → side (k *ℤ ax +ℤ sx) (k *ℤ ay +ℤ sy) (k *ℤ bx +ℤ sx) (k *ℤ by +ℤ sy) (k *ℤ px +ℤ sx) (k *ℤ py +ℤ sy) ≡ side ax ay bx by px py *ℤ (k *ℤ k)
+  side-moved = vars9 _ λ ρ. simp poly (by-ring _ _ _ tt)
+
+  -- a positive factor does not change a sign
+  neg-scaled : (c z : ℤ) → pos 0 <ℤ c → ltZ (z *ℤ c) (pos 0) ≡ ltZ z (pos 0)
+  neg-scaled c z h = same-flag _ _ (λ t. cancel-lt z (pos 0) c h (zero-r c (z *ℤ c) (record { lt = t })) .lt) (λ t. zero-l c (z *ℤ c) (mul-mono-lt z (pos 0) c (record { lt = t }) h) .lt)
+    where
+      zero-r : (c x : ℤ) → x <ℤ pos 0 → x <ℤ (pos 0 *ℤ c)
+      zero-r = all2 _ λ a a′ b b′. simp ring (omega arith)
+
+      zero-l : (c x : ℤ) → x <ℤ (pos 0 *ℤ c) → x <ℤ pos 0
+      zero-l = all2 _ λ a a′ b b′. simp ring (omega arith)
+
+  pos-scaled : (c z : ℤ) → pos 0 <ℤ c → ltZ (pos 0) (z *ℤ c) ≡ ltZ (pos 0) z
+  pos-scaled c z h = same-flag _ _ (λ t. cancel-lt (pos 0) z c h (zero-r c (z *ℤ c) (record { lt = t })) .lt) (λ t. zero-l c (z *ℤ c) (mul-mono-lt (pos 0) z c (record { lt = t }) h) .lt)
+    where
+      zero-r : (c x : ℤ) → pos 0 <ℤ x → (pos 0 *ℤ c) <ℤ x
+      zero-r = all2 _ λ a a′ b b′. simp ring (omega arith)
+
+      zero-l : (c x : ℤ) → (pos 0 *ℤ c) <ℤ x → pos 0 <ℤ x
+      zero-l = all2 _ λ a a′ b b′. simp ring (omega arith)
+
+  tst-scaled : (s t : Bool) (c z : ℤ) → pos 0 <ℤ c → tst s t (z *ℤ c) ≡ tst s t z
+  tst-scaled true true c z h = refl
+  tst-scaled true false c z h = neg-scaled c z h
+  tst-scaled false true c z h = pos-scaled c z h
+  tst-scaled false false c z h = refl
+
+  crosses-moved : (a b p : Pt) → crosses (move k s a) (move k s b) (move k s p) ≡ crosses a b p
+  crosses-moved a b p =
+      rw (le-moved (s .x) (a .x) (p .x), le-moved (s .x) (b .x) (p .x), side-moved k (s .x) (s .y) (a .x) (a .y) (b .x) (b .y) (p .x) (p .y))
+      (tst-scaled (leZ (a .x) (p .x)) (leZ (b .x) (p .x)) (k *ℤ k) (o a b p) (pos-mul k k l l))
+
+  -- the ring with each corner moved
+  abbrev pub moved : Ring → Ring
+  moved r = record { size = r .size; at = λ i. move k s (r .at i) }
+
+  same-flags : (r : Ring) (p : Pt) → parity (flag (moved r) (move k s p)) (r .size) ≡ parity (flag r p) (r .size)
+  same-flags r p = parity-ext _ _ (r .size) (λ i h. crosses-moved (from r i) (to r i) p)
+
+  off-moved : (r : Ring) (p : Pt) → (OnRing r p → ⊥) → OnRing (moved r) (move k s p) → ⊥
+  off-moved r p f h = f (record { edge = h .edge; below = h .below; on = on-unmove k s p (from r (h .edge)) (to r (h .edge)) l (h .on) })
+
+  off-unmoved : (r : Ring) (p : Pt) → (OnRing (moved r) (move k s p) → ⊥) → OnRing r p → ⊥
+  off-unmoved r p f h = f (record { edge = h .edge; below = h .below; on = on-move k s p (from r (h .edge)) (to r (h .edge)) (h .on) })
+
+  parity-moved : (r : Ring) (p : Pt) (rest : ℕ) → Parity r p rest → Parity (moved r) (move k s p) rest
+  parity-moved r p rest h = rw (place-parity r p rest h ∙ ap bit (sym (same-flags r p))) (parity-place (moved r) (move k s p) (off-moved r p (h .off)))
+
+  parity-unmoved : (r : Ring) (p : Pt) (rest : ℕ) → Parity (moved r) (move k s p) rest → Parity r p rest
+  parity-unmoved r p rest h = rw (place-parity (moved r) (move k s p) rest h ∙ ap bit (same-flags r p)) (parity-place r p (off-unmoved r p (h .off)))
+
+  pub place-moved : (r : Ring) (p : Pt) (w : Where) → Place r p w → Place (moved r) (move k s p) w
+  place-moved r p on h = record { edge = h .edge; below = h .below; on = on-move k s p (from r (h .edge)) (to r (h .edge)) (h .on) }
+  place-moved r p inside h = parity-moved r p 1 h
+  place-moved r p outside h = parity-moved r p 0 h
+
+  pub place-unmoved : (r : Ring) (p : Pt) (w : Where) → Place (moved r) (move k s p) w → Place r p w
+  place-unmoved r p on h = record { edge = h .edge; below = h .below; on = on-unmove k s p (from r (h .edge)) (to r (h .edge)) l (h .on) }
+  place-unmoved r p inside h = parity-unmoved r p 1 h
+  place-unmoved r p outside h = parity-unmoved r p 0 h
