@@ -53,8 +53,12 @@ touches r p w s zero = NONE
 touches r p w s (suc n) = min (touches r p w s n) (touch p w s (from r n) (to r n))
 
 -- ---- the place
+abbrev pub ranged : ℤ → ℤ → ℤ → Bool
+ranged a z b = leZ a z && leZ z b
+
+-- on the line of the edge, and within its box
 abbrev pub isOn : Pt → Pt → Pt → Bool
-isOn p a b = (leZ (o a b p) (pos 0) && leZ (pos 0) (o a b p)) && ((leZ (least (a .x) (b .x)) (p .x) && leZ (p .x) (most (a .x) (b .x))) && (leZ (least (a .y) (b .y)) (p .y) && leZ (p .y) (most (a .y) (b .y))))
+isOn p a b = ranged (pos 0) (o a b p) (pos 0) && (ranged (least (a .x) (b .x)) (p .x) (most (a .x) (b .x)) && ranged (least (a .y) (b .y)) (p .y) (most (a .y) (b .y)))
 
 unfoldable pub onSome : Ring → Pt → ℕ → Bool
 onSome r p zero = false
