@@ -1,2 +1,6 @@
 pub mod Span
 pub mod Place
+pub mod Touch
+pub mod First
+pub mod Motion
+pub mod Verdict

@@ -87,7 +87,7 @@ module _ (s : Span) (p : Proper s) (n d : ℤ) (l : pos 0 <ℤ d) where
       })
 
 -- ---- any inequality
-turned : {s u : Span} {P Q : Frac → Type 0} → Clips s u P → ((t : Frac) → P t → Q t) → ((t : Frac) → Q t → P t) → Clips s u Q
+pub turned : {s u : Span} {P Q : Frac → Type 0} → Clips s u P → ((t : Frac) → P t → Q t) → ((t : Frac) → Q t → P t) → Clips s u Q
 turned c f g = record { proper = c .proper; keeps = λ t i q. c .keeps t i (g t q); gives = λ t i. (c .gives t i .0, f t (c .gives t i .1)) }
 
 rise : (α β n d : ℤ) → (negℤ α *ℤ d) ≤ℤ (n *ℤ β) → pos 0 ≤ℤ (α *ℤ d +ℤ β *ℤ n)

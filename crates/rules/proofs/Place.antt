@@ -143,7 +143,7 @@ module _ (k : ℤ) (s : Pt) (l : pos 0 <ℤ k) where
   abbrev pub moved : Ring → Ring
   moved r = record { size = r .size; at = λ i. move k s (r .at i) }
 
-  same-flags : (r : Ring) (p : Pt) → parity (flag (moved r) (move k s p)) (r .size) ≡ parity (flag r p) (r .size)
+  pub same-flags : (r : Ring) (p : Pt) → parity (flag (moved r) (move k s p)) (r .size) ≡ parity (flag r p) (r .size)
   same-flags r p = parity-ext _ _ (r .size) (λ i h. crosses-moved (from r i) (to r i) p)
 
   off-moved : (r : Ring) (p : Pt) → (OnRing r p → ⊥) → OnRing (moved r) (move k s p) → ⊥

@@ -41,7 +41,7 @@ pub record Common (a b p q : Pt) : Type 0 where
   pub y : (n -ℤ i) *ℤ a .y +ℤ i *ℤ b .y ≡ (n -ℤ j) *ℤ p .y +ℤ j *ℤ q .y
 
 -- a weighted sum of two negative numbers is negative
-mix : (n j u v : ℤ) → pos 0 <ℤ n → pos 0 ≤ℤ j → j ≤ℤ n → u <ℤ pos 0 → v <ℤ pos 0 → ((n -ℤ j) *ℤ u +ℤ j *ℤ v) <ℤ pos 0
+pub mix : (n j u v : ℤ) → pos 0 <ℤ n → pos 0 ≤ℤ j → j ≤ℤ n → u <ℤ pos 0 → v <ℤ pos 0 → ((n -ℤ j) *ℤ u +ℤ j *ℤ v) <ℤ pos 0
 mix n j u v hn h k hu hv = ⊎-elim (λ z. at-zero z) (λ z. past z) (le-or-lt j (pos 0))
   where
     sum : (x y : ℤ) → x <ℤ pos 0 → y ≤ℤ pos 0 → (x +ℤ y) <ℤ pos 0
@@ -65,7 +65,7 @@ mix n j u v hn h k hu hv = ⊎-elim (λ z. at-zero z) (λ z. past z) (le-or-lt j
     past : pos 0 <ℤ j → ((n -ℤ j) *ℤ u +ℤ j *ℤ v) <ℤ pos 0
     past z = sum′ _ _ (np-mul (n -ℤ j) u (le-sub _ _ k) (lt-le _ _ hu)) (flip j v (pos-mul j (negℤ v) z (turn v hv)))
 
-mix⁺ : (n j u v : ℤ) → pos 0 <ℤ n → pos 0 ≤ℤ j → j ≤ℤ n → pos 0 <ℤ u → pos 0 <ℤ v → pos 0 <ℤ ((n -ℤ j) *ℤ u +ℤ j *ℤ v)
+pub mix⁺ : (n j u v : ℤ) → pos 0 <ℤ n → pos 0 ≤ℤ j → j ≤ℤ n → pos 0 <ℤ u → pos 0 <ℤ v → pos 0 <ℤ ((n -ℤ j) *ℤ u +ℤ j *ℤ v)
 mix⁺ n j u v hn h k hu hv = back n j u v (mix n j (negℤ u) (negℤ v) hn h k (turn u hu) (turn v hv))
   where
     turn : (a : ℤ) → pos 0 <ℤ a → negℤ a <ℤ pos 0

@@ -1,0 +1,88 @@
+-- The least mark over the edges is the mark of the first touch. Assumes nothing.
+use mathlib.Core.Path.{_≡_, refl, sym, subst}
+use mathlib.Core.Logic.{_⊎_, inl, inr, ⊎-elim}
+use mathlib.Core.Bool.{Bool, true, false, cond}
+use Prim.Native.Nat.{ℕ, zero, suc, min, _*_, _≤_, _<_}
+use native.Mathlib.Omega.{arith}
+use lib.Dec.{leb→le}
+use lib.IntN.{ℤ, pos}
+use lib.Signed.{_≤ℤ_}
+use Rattle.whole.specs.Fraction.{Frac, _≼_, mark, whole, Floor}
+use Rattle.whole.proofs.Fraction.{trans, total, floor-mono}
+use Rattle.whole.proofs.Order.{lt-le, ℕ-or}
+use Rattle.rules.specs.Ring.{Pt, Ring, from, to}
+use Rattle.decide.specs.Span.{Span, some, first}
+use Rattle.decide.specs.Touch.{NONE, across, sameSide, onEdge, touch, touches}
+use Rattle.decide.proofs.Span.{Proper, In, begin, Clips, begins, no-moment, first-mark}
+use Rattle.decide.proofs.Touch.{OnAt, edge-clips, beside}
+
+-- c is the mark of the first moment of the span at which Q, or says that there is none
+pub data FirstAt (s : Span) (Q : Frac → Type 0) (c : ℕ) : Type 0 where
+  never : c ≡ NONE → ((t : Frac) → In s t → Q t → ⊥) → FirstAt s Q c
+  when : (lo : Frac) → In s lo → Q lo → ((t : Frac) → In s t → Q t → lo ≼ t) → Floor (pos c) lo → c < NONE → FirstAt s Q c
+
+-- no moment is later than the longest run
+abbrev pub Early : Span → Type 0
+Early s = (t : Frac) → In s t → t ≼ whole (pos 4096)
+
+pub below-none : (c : ℕ) (t : Frac) → Floor (pos c) t → t ≼ whole (pos 4096) → c < NONE
+below-none c t f h = let l = leb→le (c * 1) 1048576 (trans (mark (pos c)) t (whole (pos 4096)) (f .low) h .le) in omega arith
+
+-- ---- of two, the earlier
+le-of : (c d : ℕ) → pos c ≤ℤ pos d → c ≤ d
+le-of c d h = leb→le c d (h .le)
+
+pub joined : {s : Span} {Q R : Frac → Type 0} (c d : ℕ) → FirstAt s Q c → FirstAt s R d → FirstAt s (λ t. Q t ⊎ R t) (min c d)
+joined {s} {Q} {R} c d (never e f) (never g h) = never (omega arith) (λ t i q. ⊎-elim (f t i) (h t i) q)
+joined {s} {Q} {R} c d (never e f) (when lo i q l m b) =
+    let z : d ≡ min c d = omega arith in
+    subst (λ (k : ℕ). FirstAt s (λ t. Q t ⊎ R t) k) z (when lo i (inr q) (λ t j x. ⊎-elim (λ y. absurd (f t j y)) (l t j) x) m b)
+joined {s} {Q} {R} c d (when lo i q l m b) (never e f) =
+    let z : c ≡ min c d = omega arith in
+    subst (λ (k : ℕ). FirstAt s (λ t. Q t ⊎ R t) k) z (when lo i (inl q) (λ t j x. ⊎-elim (l t j) (λ y. absurd (f t j y)) x) m b)
+joined {s} {Q} {R} c d (when lo i q l m b) (when lo′ i′ q′ l′ m′ b′) =
+    ⊎-elim
+    (λ h. let o = le-of c d (floor-mono (pos c) (pos d) lo lo′ m m′ h) in
+    let z : c ≡ min c d = omega arith in
+    subst (λ (k : ℕ). FirstAt s (λ t. Q t ⊎ R t) k) z (when lo i (inl q) (λ t j x. ⊎-elim (l t j) (λ y. trans lo lo′ t h (l′ t j y)) x) m b))
+    (λ h. let o = le-of d c (floor-mono (pos d) (pos c) lo′ lo m′ m (lt-le _ _ h)) in
+    let z : d ≡ min c d = omega arith in
+    subst (λ (k : ℕ). FirstAt s (λ t. Q t ⊎ R t) k) z (when lo′ i′ (inr q′) (λ t j x. ⊎-elim (λ y. trans lo′ lo t (lt-le _ _ h) (l t j y)) (l′ t j) x) m′ b′))
+    (total lo lo′)
+
+pub through : {s : Span} {Q R : Frac → Type 0} {c : ℕ} → ((t : Frac) → Q t → R t) → ((t : Frac) → R t → Q t) → FirstAt s Q c → FirstAt s R c
+through f g (never e h) = never e (λ t i q. h t i (g t q))
+through f g (when lo i q l m b) = when lo i (f lo q) (λ t j x. l t j (g t x)) m b
+
+-- ---- an edge
+pub first-touch : (p w : Pt) (s : Span) → Proper s → Early s → (a b : Pt) → FirstAt s (OnAt p w a b) (touch p w s a b)
+unfolding touch
+first-touch p w s q early a b = go (sameSide (across p w a) (across p w b)) refl (some (onEdge p w s a b)) refl
+  where
+    c : Clips s (onEdge p w s a b) (OnAt p w a b)
+    c = edge-clips p w a b s q
+
+    go : (t : Bool) → sameSide (across p w a) (across p w b) ≡ t → (u : Bool) → some (onEdge p w s a b) ≡ u → FirstAt s (OnAt p w a b) (cond t NONE (cond u (first (onEdge p w s a b)) NONE))
+    go true e u f = never refl (λ t i h. beside p w a b e t h)
+    go false e false f = never refl (λ t i h. no-moment (onEdge p w s a b) (c .proper) f t (c .keeps t i h))
+    go false e true f =
+        let lo = begin (onEdge p w s a b) (c .proper) in
+        let i = c .gives lo (begins (onEdge p w s a b) (c .proper) f) in
+        let m = first-mark (onEdge p w s a b) (c .proper) in
+        when lo (i .0) (i .1) (λ t j h. c .keeps t j h .after) m (below-none (first (onEdge p w s a b)) lo m (early lo (i .0)))
+
+-- ---- all edges
+abbrev pub OnFirst : Ring → Pt → Pt → ℕ → Frac → Type 0
+OnFirst r p w n t = (k : ℕ) × (k < n) × OnAt p w (from r k) (to r k) t
+
+pub first-touches : (r : Ring) (p w : Pt) (s : Span) → Proper s → Early s → (n : ℕ) → FirstAt s (OnFirst r p w n) (touches r p w s n)
+unfolding touches
+first-touches r p w s q early zero = never refl (λ t i h. let l = h .1 in absurd (omega arith))
+first-touches r p w s q early (suc n) = through out into (joined (touches r p w s n) (touch p w s (from r n) (to r n)) (first-touches r p w s q early n) (first-touch p w s q early (from r n) (to r n)))
+  where
+    out : (t : Frac) → OnFirst r p w n t ⊎ OnAt p w (from r n) (to r n) t → OnFirst r p w (suc n) t
+    out t (inl h) = let l = h .1 in (h .0, omega arith, h .2)
+    out t (inr h) = (n, omega arith, h)
+
+    into : (t : Frac) → OnFirst r p w (suc n) t → OnFirst r p w n t ⊎ OnAt p w (from r n) (to r n) t
+    into t h = let l = h .1 in ⊎-elim (λ (g : n ≤ h .0). let e : h .0 ≡ n = omega arith in inr (subst (λ (k : ℕ). OnAt p w (from r k) (to r k) t) e (h .2))) (λ (g : h .0 < n). inl (h .0, g, h .2)) (ℕ-or n (h .0))
