@@ -4,12 +4,16 @@ use mathlib.Core.Logic.{_⊎_, inl, inr, ⊎-elim}
 use Prim.Native.Nat.{ℕ, zero, suc, _≤_, _<_}
 use native.Mathlib.Omega.{arith}
 use Rattle.whole.proofs.Order.{ℕ-or}
-use Rattle.whole.proofs.Flag.{eq-self, lt-not-eq}
+use Rattle.whole.proofs.Flag.{eq-self, lt-not-eq, gt-not-eq}
 use Rattle.rules.specs.Ring.{next}
 
 pub next-inner : (n i : ℕ) → suc i < n → next n i ≡ suc i
 unfolding next
 next-inner n i h = rw (lt-not-eq (suc i) n h)
+
+pub next-past : (n i : ℕ) → n < suc i → next n i ≡ suc i
+unfolding next
+next-past n i h = rw (gt-not-eq (suc i) n h)
 
 pub next-last : (n : ℕ) → next (suc n) n ≡ 0
 unfolding next

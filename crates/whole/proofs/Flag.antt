@@ -44,6 +44,9 @@ eq-self n = is-true (eqb n n) (eqb-refl n)
 pub lt-not-eq : (k n : ℕ) → k < n → eqb k n ≡ false
 lt-not-eq k n l = is-false (eqb k n) (λ t. let e = eqb→eq k n t in omega arith)
 
+pub gt-not-eq : (k n : ℕ) → n < k → eqb k n ≡ false
+gt-not-eq k n l = is-false (eqb k n) (λ t. let e = eqb→eq k n t in omega arith)
+
 -- ---- whole numbers
 pub lt-true : (a b : ℤ) → ltZ a b ≡ true → a <ℤ b
 lt-true a b e = record { lt = yes-of (ltZ a b) e }
