@@ -5,7 +5,7 @@ use mathlib.Core.Logic.{_⊎_, inl, inr, ⊎-elim}
 use lib.Dec.{T-prop}
 use lib.IntN.{ℤ, pos, _+ℤ_, _-ℤ_, _*ℤ_, *ℤ-comm}
 use lib.Signed.{_≤ℤ_, _<ℤ_, ltZ}
-use Rattle.whole.specs.Fraction.{Frac, _≼_, whole}
+use Rattle.whole.specs.Fraction.{Frac, _≼_, _≈_, whole}
 use Rattle.whole.proofs.Fraction.{scaled, trans}
 use Rattle.whole.proofs.Order.{eq-le, mul-mono, cancel, lt-le}
 use Rattle.whole.proofs.Polynomial.{vars4, vars5, poly, num-val, by-ring}
@@ -70,13 +70,13 @@ frac-eq : (s t : Frac) → s .num ≡ t .num → s .den ≡ t .den → s ≡ t
 frac-eq s t e f = λ i. record { num = e i; den = f i; some = isProp→PathP (λ j. pos 0 <ℤ f j) (λ j. lt-prop (pos 0) (f j)) (s .some) (t .some) i }
 
 -- equal fractions meet at the product of their denominators
-common : (s t : Frac) → s .num *ℤ t .den ≡ t .num *ℤ s .den → scaled (t .den) (t .some) s ≡ scaled (s .den) (s .some) t
+common : (s t : Frac) → s ≈ t → scaled (t .den) (t .some) s ≡ scaled (s .den) (s .some) t
 common s t e = frac-eq _ _ (*ℤ-comm (t .den) (s .num) ∙ e ∙ *ℤ-comm (t .num) (s .den)) (*ℤ-comm (t .den) (s .den))
 
-pub same-contact : (r : Run) (k : Piece) (s t : Frac) → s .num *ℤ t .den ≡ t .num *ℤ s .den → Contact r k s → Contact r k t
+pub same-contact : (r : Run) (k : Piece) (s t : Frac) → s ≈ t → Contact r k s → Contact r k t
 same-contact r k s t e h = contact-unscaled r k (s .den) (s .some) t (subst (λ (u : Frac). Contact r k u) (common s t e) (contact-scaled r k (t .den) (t .some) s h))
 
-pub same-moment : (r : Run) (s t : Frac) → s .num *ℤ t .den ≡ t .num *ℤ s .den → Moment r s → Moment r t
+pub same-moment : (r : Run) (s t : Frac) → s ≈ t → Moment r s → Moment r t
 same-moment r s t e h = record { from = trans (whole (pos 0)) s t (h .from) (eq-le _ _ e); to = trans t s (whole (pos (r .ticks))) (eq-le _ _ (sym e)) (h .to) }
 
 -- ---- relative motion: the footprint stands, the point runs at the difference of the velocities

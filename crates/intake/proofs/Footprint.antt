@@ -1,0 +1,111 @@
+-- The corners of a footprint one after the other: what a list holds after each, and what the checks find. Assumes nothing.
+use mathlib.Core.Path.{_≡_, refl, sym, subst, _∙_}
+use mathlib.Core.Logic.{inl, inr}
+use mathlib.Core.List.{List}
+use Prim.Native.Nat.{ℕ, zero, suc, _+_, _*_, _-_, _≤_, _<_}
+use native.Mathlib.Omega.{arith}
+use native.Mathlib.Nat.{add-suc, add-zero}
+use lib.IntN.{ℤ, pos}
+use lib.ListN.{length, getD, set, length-set}
+use lib.Seq.{getD-set-same, getD-set-other}
+use borrow.Author.Count.{below-more}
+use Rattle.rules.specs.Reach.{Corners}
+use Rattle.rules.specs.Refusal as rules
+use Rattle.rules.specs.Refusal.{Passes, Fault}
+use Rattle.rules.proofs.Checks.{passes-append, fault-left, fault-right}
+use Rattle.refusal.specs.Said.{said, Finds}
+use Rattle.refusal.specs.declared.Refusal.{Refusal}
+use Rattle.refusal.specs.declared.Refusal.the-variants.{Corners as Corners', Short}
+use Rattle.refusal.specs.declared.Checked.the-variants.{Good, Refused}
+use Rattle.intake.specs.declared.Taken.the-variants.{Grid}
+use Rattle.intake.specs.declared.Corner.{Corner}
+use Rattle.intake.specs.Number.{Answer}
+use Rattle.intake.specs.Footprint.{cornerChecks, cornerAt, cornersChecks, intakeChecks, Holds, Filled}
+
+-- ---- one more number into a list
+module _ (l : List ℤ) (j : ℕ) (v : ℤ) where
+  at-set : j < length l → getD (set l j v) j (pos 0) ≡ v
+  at-set h = getD-set-same l j v (pos 0) h
+
+  off-set : (k : ℕ) → (k ≡ j → ⊥) → getD (set l j v) k (pos 0) ≡ getD l k (pos 0)
+  off-set k n = getD-set-other l j k v (pos 0) n
+
+pub put-none : (l list : List ℤ) → Filled l 0 list list
+put-none l list = record { same = λ k h. absurd (omega arith); stays = record { long = refl; past = λ k h. refl } }
+
+pub put-more : (l : List ℤ) (j : ℕ) (before list : List ℤ) (v : ℤ) → v ≡ getD l j (pos 0) → j < length list → Filled l j before list → Filled l (j + 1) before (set list j v)
+put-more l j before list v e h f =
+    record {
+      same = below-more (λ k. getD (set list j v) k (pos 0) ≡ getD l k (pos 0)) j (λ k lt. off-set list j v k (omega arith) ∙ f .same k lt) (at-set list j v h ∙ e);
+      stays = record {
+        long = length-set list j v ∙ f .stays .long;
+        past = λ k le. off-set list j v k (omega arith) ∙ f .stays .past k (omega arith);
+      };
+    }
+
+-- ---- one more corner into a list
+module _ (cs : List Corner) (i : ℕ) (l : List ℤ) (x y : ℤ) where
+  pub hold-more : 2 * i + 1 < length l → Holds cs i l → Answer (cornerAt cs i .x) (Grid x) → Answer (cornerAt cs i .y) (Grid y) → Holds cs (i + 1) (set (set l (2 * i) x) (2 * i + 1) y)
+  hold-more h f a b =
+      record {
+        x = below-more (λ k. Answer (cornerAt cs k .x) (Grid (getD later (2 * k) (pos 0)))) i
+            (λ k lt. subst (λ (z : ℤ). Answer (cornerAt cs k .x) (Grid z)) (sym (off-set first (2 * i + 1) y (2 * k) (omega arith) ∙ off-set l (2 * i) x (2 * k) (omega arith))) (f .x k lt))
+            (subst (λ (z : ℤ). Answer (cornerAt cs i .x) (Grid z)) (sym (off-set first (2 * i + 1) y (2 * i) (omega arith) ∙ at-set l (2 * i) x (omega arith))) a);
+        y = below-more (λ k. Answer (cornerAt cs k .y) (Grid (getD later (2 * k + 1) (pos 0)))) i
+            (λ k lt. subst (λ (z : ℤ). Answer (cornerAt cs k .y) (Grid z)) (sym (off-set first (2 * i + 1) y (2 * k + 1) (omega arith) ∙ off-set l (2 * i) x (2 * k + 1) (omega arith))) (f .y k lt))
+            (subst (λ (z : ℤ). Answer (cornerAt cs i .y) (Grid z)) (sym (at-set first (2 * i + 1) y (simp length-set h))) b);
+      }
+    where
+      first : List ℤ
+      first = set l (2 * i) x
+
+      later : List ℤ
+      later = set first (2 * i + 1) y
+
+-- ---- what the checks find
+holds-less : (cs : List Corner) (n : ℕ) (l : List ℤ) → Holds cs (suc n) l → Holds cs n l
+holds-less cs n l h = record { x = λ i lt. h .x i (omega arith); y = λ i lt. h .y i (omega arith) }
+
+pub holds-pass : (cs : List Corner) (n : ℕ) (l : List ℤ) → Holds cs n l → Passes (cornersChecks cs n)
+unfolding cornersChecks
+holds-pass cs zero l h = tt
+holds-pass cs (suc n) l h =
+    passes-append (cornersChecks cs n) (cornerChecks (cornerAt cs n) n) (holds-pass cs n l (holds-less cs n l h)) ((_, h .x n (omega arith)), ((_, h .y n (omega arith)), tt))
+
+module _ (cs : List Corner) (s : rules.Refusal) where
+  fault-more : (k d : ℕ) → Fault (cornersChecks cs k) s → Fault (cornersChecks cs (k + d)) s
+  unfolding cornersChecks
+  fault-more k zero f = rw (add-zero k) f
+  fault-more k (suc d) f = rw (add-suc k d) (fault-left (cornersChecks cs (k + d)) (cornerChecks (cornerAt cs (k + d)) (k + d)) s (fault-more k d f))
+
+  pub fault-at : (i n : ℕ) → i < n → Passes (cornersChecks cs i) → Fault (cornerChecks (cornerAt cs i) i) s → Fault (cornersChecks cs n) s
+  unfolding cornersChecks
+  fault-at i n h p f =
+      let e : suc i + (n - suc i) ≡ n = omega arith in
+      rw e at (fault-more (suc i) (n - suc i) (fault-right (cornersChecks cs i) (cornerChecks (cornerAt cs i) i) s p f))
+
+-- ---- the checks of an intake, one after the other
+module _ (cs : List Corner) (n size : ℕ) where
+  pub beyond-count : (Corners n → ⊥) → Finds (intakeChecks cs n size) (Refused Corners')
+  unfolding intakeChecks
+  beyond-count f = inl (f, refl)
+
+  pub too-short : Corners n → (2 * n ≤ size → ⊥) → Finds (intakeChecks cs n size) (Refused Short)
+  unfolding intakeChecks
+  too-short c f = inr (c, inl (f, refl))
+
+  pub fault-in : Corners n → 2 * n ≤ size → (r : Refusal) → Fault (cornersChecks cs n) (said r) → Finds (intakeChecks cs n size) (Refused r)
+  unfolding intakeChecks
+  fault-in c l r f = inr (c, inr (l, f))
+
+  pub all-good : Corners n → 2 * n ≤ size → (l : List ℤ) → Holds cs n l → Finds (intakeChecks cs n size) Good
+  unfolding intakeChecks
+  all-good c l h k = (c, (l, holds-pass cs n h k))
+
+-- what was gathered, put into a list
+pub holds-put : (cs : List Corner) (n : ℕ) (l before later : List ℤ) → Holds cs n l → Filled l (2 * n) before later → Holds cs n later
+holds-put cs n l before later h f =
+    record {
+      x = λ i lt. subst (λ (z : ℤ). Answer (cornerAt cs i .x) (Grid z)) (sym (f .same (2 * i) (omega arith))) (h .x i lt);
+      y = λ i lt. subst (λ (z : ℤ). Answer (cornerAt cs i .y) (Grid z)) (sym (f .same (2 * i + 1) (omega arith))) (h .y i lt);
+    }

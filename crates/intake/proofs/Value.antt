@@ -1,0 +1,142 @@
+-- The value of a binary32 number as a fraction: comparison is that of the values. Assumes nothing.
+use mathlib.Core.Path.{_≡_, refl, sym, ap, subst, _∙_}
+use mathlib.Core.Logic.{⊎-elim}
+use mathlib.Core.Bool.{Bool, true, false, not, true≢false}
+use Prim.Native.Nat.{ℕ, suc, _+_, _*_, _≤_}
+use native.Mathlib.Omega.{arith}
+use lib.Dec.{T, eqb, ltb, ltb→lt, nltb→le, eqb→eq}
+use lib.IntN.{ℤ, pos, negsuc, negℤ, _*ℤ_}
+use lib.Signed.{_≤ℤ_, _<ℤ_, ≤ℤ-refl}
+use lib.Ieee.{Float, nan, inf, fin, below, level, lt, eq, up, down}
+use lib.Ieee.Fits.{and-l, and-r, and-i, eq→eqb}
+use Rattle.whole.specs.Fraction.{Frac, _≼_, _≺_, _≈_}
+use Rattle.whole.proofs.Difference.{_⊖_, pos-⊖, neg-⊖, ring}
+use Rattle.whole.proofs.Order.{antisym}
+use Rattle.whole.proofs.Flag.{yes-of, no-of, decided}
+use Rattle.whole.proofs.Fraction.{trans, apart, le-then-lt, lt-then-le}
+use Rattle.intake.specs.Number.{signed, value, Is}
+
+-- ---- a signed size
+pub minus-⊖ : (a : ℕ) → signed true a ≡ 0 ⊖ a
+minus-⊖ a = ap negℤ (pos-⊖ a) ∙ neg-⊖ a 0
+
+pub signed-mul : (s : Bool) (a d : ℕ) → signed s (a * d) ≡ signed s a *ℤ pos d
+signed-mul false a d = refl
+signed-mul true a d = simp (minus-⊖, ring) (omega arith)
+
+-- a value between -n and n has a size of at most n
+pub size-within : (n : ℕ) (s : Bool) (a d : ℕ) → (negsuc n *ℤ pos d) ≤ℤ (signed s a *ℤ pos 1) → (signed s a *ℤ pos 1) ≤ℤ (pos (suc n) *ℤ pos d) → a ≤ suc n * d
+size-within n true a d h k = let l = simp (minus-⊖, ring) at h in omega arith
+size-within n false a d h k = let l = simp ring at k in omega arith
+
+-- ---- the machine's comparison of two sizes with signs
+below-yes : (s : Bool) (a : ℕ) (t : Bool) (b : ℕ) → below s a t b ≡ true → signed s a <ℤ signed t b
+below-yes false a false b e = let h = ltb→lt a b (yes-of (ltb a b) e) in simp ring (omega arith)
+below-yes false a true b e = absurd (true≢false (sym e))
+below-yes true a false b e = let h = ltb→lt 0 (a + b) (yes-of (ltb 0 (a + b)) e) in simp (minus-⊖, ring) (omega arith)
+below-yes true a true b e = let h = ltb→lt b a (yes-of (ltb b a) e) in simp (minus-⊖, ring) (omega arith)
+
+nlt : (a b : ℕ) → ltb a b ≡ false → b ≤ a
+nlt a b e = nltb→le a b (subst (λ (t : Bool). T (not t)) (sym e) tt)
+
+below-no : (s : Bool) (a : ℕ) (t : Bool) (b : ℕ) → below s a t b ≡ false → signed t b ≤ℤ signed s a
+below-no false a false b e = let h = nlt a b e in simp ring (omega arith)
+below-no false a true b e = simp (minus-⊖, ring) (omega arith)
+below-no true a false b e = let h = nlt 0 (a + b) e in simp (minus-⊖, ring) (omega arith)
+below-no true a true b e = let h = nlt b a e in simp (minus-⊖, ring) (omega arith)
+
+level-yes : (s : Bool) (a : ℕ) (t : Bool) (b : ℕ) → T (level s a t b) → signed s a ≡ signed t b
+level-yes false a false b h = ap pos (eqb→eq a b (and-l (eqb a b) true h))
+level-yes true a true b h = ap (λ (n : ℕ). negℤ (pos n)) (eqb→eq a b (and-l (eqb a b) true h))
+level-yes false a true b h =
+    let p : a ≡ b = eqb→eq a b (and-l (eqb a b) (eqb a 0) h) in
+    let z : a ≡ 0 = eqb→eq a 0 (and-r (eqb a b) (eqb a 0) h) in
+    simp (minus-⊖, ring) (omega arith)
+level-yes true a false b h =
+    let p : a ≡ b = eqb→eq a b (and-l (eqb a b) (eqb a 0) h) in
+    let z : a ≡ 0 = eqb→eq a 0 (and-r (eqb a b) (eqb a 0) h) in
+    simp (minus-⊖, ring) (omega arith)
+
+unsigned : (s t : Bool) (a b : ℕ) → signed s a ≡ signed t b → a ≡ b
+unsigned false false a b e = let h = simp ring at e in omega arith
+unsigned true true a b e = let h = simp (minus-⊖, ring) at e in omega arith
+unsigned false true a b e = let h = simp (minus-⊖, ring) at e in omega arith
+unsigned true false a b e = let h = simp (minus-⊖, ring) at e in omega arith
+
+unlike-zero : (a b : ℕ) → signed true a ≡ signed false b → a ≡ 0
+unlike-zero a b e = let h = simp (minus-⊖, ring) at e in omega arith
+
+level-back : (s : Bool) (a : ℕ) (t : Bool) (b : ℕ) → signed s a ≡ signed t b → T (level s a t b)
+level-back false a false b e = and-i (eqb a b) true (eq→eqb (unsigned false false a b e)) tt
+level-back true a true b e = and-i (eqb a b) true (eq→eqb (unsigned true true a b e)) tt
+level-back false a true b e = and-i (eqb a b) (eqb a 0) (eq→eqb (unsigned false true a b e)) (eq→eqb (unsigned false true a b e ∙ unlike-zero b a (sym e)))
+level-back true a false b e = and-i (eqb a b) (eqb a 0) (eq→eqb (unsigned true false a b e)) (eq→eqb (unlike-zero a b e))
+
+-- ---- equal fractions
+eq-le : (x y : ℤ) → x ≡ y → x ≤ℤ y
+eq-le x y e = subst (λ (z : ℤ). x ≤ℤ z) e (≤ℤ-refl x)
+
+pub ≈-≼ : (s t : Frac) → s ≈ t → s ≼ t
+≈-≼ s t e = eq-le _ _ e
+
+pub ≈-sym : (s t : Frac) → s ≈ t → t ≈ s
+≈-sym s t e = sym e
+
+pub ≈-of : (s t : Frac) → s ≼ t → t ≼ s → s ≈ t
+≈-of s t h k = antisym _ _ h k
+
+module _ (x y u v : Frac) (p : x ≈ u) (q : y ≈ v) where
+  pub ≺-by : x ≺ y → u ≺ v
+  ≺-by h = le-then-lt u x v (≈-≼ u x (≈-sym x u p)) (lt-then-le x y v h (≈-≼ y v q))
+
+  pub ≼-by : x ≼ y → u ≼ v
+  ≼-by h = trans u x v (≈-≼ u x (≈-sym x u p)) (trans x y v h (≈-≼ y v q))
+
+-- ---- the comparison of two finite numbers is that of their values
+cross : (s : Bool) (m : ℕ) (e d : ℤ) → signed s (m * up e * down d) ≡ value s m e .num *ℤ pos (down d)
+cross s m e d = signed-mul s (m * up e) (down d)
+
+module _ (u v : Frac) where
+  pub lt-yes : (x y : Float) → Is x u → Is y v → lt x y ≡ true → u ≺ v
+  unfolding lt
+  lt-yes (fin s m e) (fin t n d) p q h =
+      ≺-by (value s m e) (value t n d) u v p q (rw (cross s m e d, cross t n d e) at (below-yes s (m * up e * down d) t (n * up d * down e) h))
+  lt-yes (fin s m e) nan p q h = absurd q
+  lt-yes (fin s m e) (inf t) p q h = absurd q
+  lt-yes nan y p q h = absurd p
+  lt-yes (inf s) y p q h = absurd p
+
+  pub lt-no : (x y : Float) → Is x u → Is y v → lt x y ≡ false → v ≼ u
+  unfolding lt
+  lt-no (fin s m e) (fin t n d) p q h =
+      ≼-by (value t n d) (value s m e) v u q p (rw (cross s m e d, cross t n d e) at (below-no s (m * up e * down d) t (n * up d * down e) h))
+  lt-no (fin s m e) nan p q h = absurd q
+  lt-no (fin s m e) (inf t) p q h = absurd q
+  lt-no nan y p q h = absurd p
+  lt-no (inf s) y p q h = absurd p
+
+  pub eq-yes : (x y : Float) → Is x u → Is y v → eq x y ≡ true → u ≈ v
+  unfolding eq
+  eq-yes (fin s m e) (fin t n d) p q h =
+      let w : value s m e ≈ value t n d = rw (cross s m e d, cross t n d e) at (level-yes s (m * up e * down d) t (n * up d * down e) (yes-of (eq (fin s m e) (fin t n d)) h)) in
+      ≈-of u v (≼-by (value s m e) (value t n d) u v p q (≈-≼ (value s m e) (value t n d) w)) (≼-by (value t n d) (value s m e) v u q p (≈-≼ (value t n d) (value s m e) (≈-sym (value s m e) (value t n d) w)))
+  eq-yes (fin s m e) nan p q h = absurd q
+  eq-yes (fin s m e) (inf t) p q h = absurd q
+  eq-yes nan y p q h = absurd p
+  eq-yes (inf s) y p q h = absurd p
+
+  pub eq-no : (x y : Float) → Is x u → Is y v → eq x y ≡ false → u ≼ v → v ≼ u → ⊥
+  unfolding eq
+  eq-no (fin s m e) (fin t n d) p q h i j =
+      let x = value s m e in
+      let y = value t n d in
+      let w : x ≈ y = ≈-of x y (≼-by u v x y (≈-sym x u p) (≈-sym y v q) i) (≼-by v u y x (≈-sym y v q) (≈-sym x u p) j) in
+      no-of (eq (fin s m e) (fin t n d)) h
+      (level-back s (m * up e * down d) t (n * up d * down e) (cross s m e d ∙ w ∙ sym (cross t n d e)))
+  eq-no (fin s m e) nan p q h i j = absurd q
+  eq-no (fin s m e) (inf t) p q h i j = absurd q
+  eq-no nan y p q h i j = absurd p
+  eq-no (inf s) y p q h i j = absurd p
+
+  pub lt-is : (x y : Float) → Is x u → Is y v → u ≺ v → lt x y ≡ true
+  lt-is x y p q h = ⊎-elim (λ e. e) (λ e. absurd (apart u v h (lt-no x y p q e))) (decided (lt x y))

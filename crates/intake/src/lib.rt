@@ -1,0 +1,157 @@
+// The intake of exported corners: binary32 numbers, of which one unit is sixteen grid units, answered one by one or taken into a lent list.
+use refusal::Checked;
+use refusal::Refusal;
+ghost use Prim.Native.Nat.{_*_, _≤_};
+ghost use lib.ListN.{length};
+ghost use Rattle.intake.specs.Number.{Scaled, Floored, Answer};
+ghost use Rattle.intake.specs.Footprint.{Refuses, Paired, Gathered, Filled, Intake};
+
+// A corner as exported.
+pub struct Corner {
+    pub x: f32,
+    pub y: f32,
+}
+
+// The answer of one number: its grid number; the grid value at or below it; not a number; out of reach.
+pub enum Taken {
+    Grid(i32),
+    OffGrid(f32),
+    NotNumber,
+    Beyond,
+}
+
+// The whole number at or below a scaled number: what is cut off toward zero is put back below it.
+fn floor(scaled: f32) -> i32
+    requires { ⌜ Scaled scaled ⌝ }
+    ensures { λ r. ⌜ Floored scaled r ⌝ }
+{
+    let toward = std::num::truncating_f32_to_i64(scaled) as i32;
+    let back = toward as f32;
+    if back > scaled { toward - 1 } else { toward }
+}
+
+// One number. Within reach, sixteen times it is exact.
+pub fn take(x: f32) -> Taken
+    ensures { λ r. ⌜ Answer x r ⌝ }
+{
+    if x != x {
+        return Taken::NotNumber;
+    }
+    if x < -1024.0 {
+        return Taken::Beyond;
+    }
+    if x > 1024.0 {
+        return Taken::Beyond;
+    }
+    let scaled = x * 16.0;
+    let k = floor(scaled);
+    let back = k as f32;
+    if back == scaled {
+        return Taken::Grid(k);
+    }
+    Taken::OffGrid(back * 0.0625)
+}
+
+// The refusal of a number that is not taken; a grid number has none, and is not asked about.
+fn refused(answer: Taken, corner: usize, axis: usize) -> Refusal
+    ensures { λ r. ⌜ Refuses answer corner axis r ⌝ }
+{
+    match answer {
+        Taken::NotNumber => Refusal::NotNumber(corner, axis),
+        Taken::Beyond => Refusal::Beyond(corner, axis),
+        Taken::OffGrid(_) => Refusal::OffGrid(corner, axis),
+        Taken::Grid(_) => Refusal::OffGrid(corner, axis),
+    }
+}
+
+// A corner's grid numbers, or the refusal of the first number that has none.
+enum Numbers {
+    Both(i32, i32),
+    Refused(Refusal),
+}
+
+// x is looked at before y.
+fn pair(corner: Corner, i: usize) -> Numbers
+    ensures { λ r. ⌜ Paired corner i r ⌝ }
+{
+    let first = take(corner.x);
+    let Taken::Grid(x) = first else {
+        return Numbers::Refused(refused(first, i, 0));
+    };
+    let second = take(corner.y);
+    let Taken::Grid(y) = second else {
+        return Numbers::Refused(refused(second, i, 1));
+    };
+    Numbers::Both(x, y)
+}
+
+// What a look at every corner finds, and the grid numbers where all are good.
+struct Found {
+    checked: Checked,
+    numbers: [i32; 128],
+}
+
+// The corners in their order, into numbers of our own.
+fn gather(corners: [Corner; 64], count: usize) -> Found
+    requires { ⌜ count ≤ 64 ⌝ }
+    ensures { λ r. ⌜ Gathered corners count (r .checked) (r .numbers) ⌝ }
+{
+    let mut numbers = [0i32; 128];
+    let mut i = 0usize;
+    while i < count {
+        let corner = corners[i];
+        match pair(corner, i) {
+            Numbers::Both(x, y) => {
+                numbers[2 * i] = x;
+                numbers[2 * i + 1] = y;
+            }
+            Numbers::Refused(r) => {
+                return Found {
+                    checked: Checked::Refused(r),
+                    numbers,
+                };
+            }
+        }
+        i += 1;
+    }
+    Found {
+        checked: Checked::Good,
+        numbers,
+    }
+}
+
+// The first n numbers, into the lent list.
+fn put(numbers: [i32; 128], n: usize, list: &mut [i32])
+    requires { ⌜ n ≤ 128 ⌝ }
+    requires { ⌜ n ≤ length (now list) ⌝ }
+    ensures { λ _. ⌜ Filled numbers n (now (list .entry)) (now (list .exit)) ⌝ }
+{
+    let mut j = 0usize;
+    while j < n {
+        list[j] = numbers[j];
+        j += 1;
+    }
+}
+
+// A footprint: `count` corners into a lent list, x then y. The list changes only where every corner is taken.
+pub fn intake(corners: [Corner; 64], count: usize, list: &mut [i32]) -> Checked
+    ensures { λ r. ⌜ Intake corners count (now (list .entry)) r (now (list .exit)) ⌝ }
+{
+    if count < 3 {
+        return Checked::Refused(Refusal::Corners);
+    }
+    if count > 64 {
+        return Checked::Refused(Refusal::Corners);
+    }
+    if list.len() < 2 * count {
+        return Checked::Refused(Refusal::Short);
+    }
+    let found = gather(corners, count);
+    let checked = found.checked;
+    let Checked::Good = checked else {
+        return checked;
+    };
+    let numbers = found.numbers;
+    put(numbers, 2 * count, list);
+    Checked::Good
+}
