@@ -10,3 +10,4 @@ pub mod Counted
 pub mod Place
 pub mod Contact
 pub mod Turn
+pub mod Reach

@@ -1,0 +1,68 @@
+-- What good runs and good pieces are known to be, number by number. Assumes nothing.
+use mathlib.Core.Path.{_≡_}
+use mathlib.Core.Logic.{_⊎_, inl, inr, ⊎-elim}
+use Prim.Native.Nat.{ℕ, _≤_, _<_}
+use native.Mathlib.Omega.{arith}
+use lib.IntN.{ℤ, pos}
+use lib.Signed.{_≤ℤ_, _<ℤ_}
+use lib.ListN.{length, getD}
+use Rattle.whole.proofs.Order.{le-or-lt, clash, ℕ-or}
+use Rattle.rules.specs.Reach.{Between, Reach, Speed, Ticks, Run, Piece}
+use Rattle.rules.specs.Refusal.{Passes}
+use Rattle.rules.specs.Good.{Sized, runChecks, pieceChecks, sizedCheck, bandCheck, shapeChecks}
+
+-- what is not known to fail, holds: these facts are decided
+pub le-stable : (a b : ℤ) → ((a ≤ℤ b → ⊥) → ⊥) → a ≤ℤ b
+le-stable a b f = ⊎-elim (λ h. h) (λ h. absurd (f (λ k. clash _ _ h k))) (le-or-lt a b)
+
+pub between-stable : (l h z : ℤ) → ((Between l h z → ⊥) → ⊥) → Between l h z
+between-stable l h z f = record { above = le-stable _ _ (λ g. f (λ b. g (b .above))); below = le-stable _ _ (λ g. f (λ b. g (b .below))) }
+
+ticks-stable : (n : ℕ) → ((Ticks n → ⊥) → ⊥) → Ticks n
+ticks-stable n f = ⊎-elim (λ h. h) (λ (h : 4096 < n). absurd (f (λ g. absurd (omega arith)))) (ℕ-or n 4096)
+
+-- a good run
+pub record RunKnown (r : Run) : Type 0 where
+  pub x : Reach (r .start .x)
+  pub y : Reach (r .start .y)
+  pub z : Reach (r .start .z)
+  pub vx : Speed (r .speed .x)
+  pub vy : Speed (r .speed .y)
+  pub vz : Speed (r .speed .z)
+  pub ticks : Ticks (r .ticks)
+
+pub run-known : (r : Run) → Passes (runChecks r) → RunKnown r
+unfolding runChecks
+run-known r p = record {
+  x = between-stable _ _ _ (p .0 0 (omega arith));
+  y = between-stable _ _ _ (p .0 1 (omega arith));
+  z = between-stable _ _ _ (p .0 2 (omega arith));
+  vx = between-stable _ _ _ (p .0 3 (omega arith));
+  vy = between-stable _ _ _ (p .0 4 (omega arith));
+  vz = between-stable _ _ _ (p .0 5 (omega arith));
+  ticks = ticks-stable (r .ticks) (p .0 6 (omega arith));
+}
+
+-- a good piece
+pub record PieceKnown (k : Piece) : Type 0 where
+  pub sized : Sized (k .corners)
+  pub bottom : Reach (k .bottom)
+  pub top : Reach (k .top)
+  pub order : k .bottom ≤ℤ k .top
+  pub vx : Speed (k .speed .x)
+  pub vy : Speed (k .speed .y)
+  pub vz : Speed (k .speed .z)
+  pub corners : (j : ℕ) → j < length (k .corners) → Reach (getD (k .corners) j (pos 0))
+
+pub piece-known : (k : Piece) → Passes (pieceChecks k) → PieceKnown k
+unfolding pieceChecks sizedCheck bandCheck shapeChecks
+piece-known k p = record {
+  sized = p .0;
+  bottom = between-stable _ _ _ (p .1 .0 0 (omega arith));
+  top = between-stable _ _ _ (λ f. p .1 .0 1 (omega arith) (λ h. f (h .0)));
+  order = le-stable _ _ (λ f. p .1 .0 1 (omega arith) (λ h. f (h .1)));
+  vx = between-stable _ _ _ (p .1 .0 2 (omega arith));
+  vy = between-stable _ _ _ (p .1 .0 3 (omega arith));
+  vz = between-stable _ _ _ (p .1 .0 4 (omega arith));
+  corners = λ j h. between-stable _ _ _ (p .1 .1 .0 j h);
+}
