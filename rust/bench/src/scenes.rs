@@ -1,0 +1,102 @@
+//! What is timed: pieces, runs and rooms, the same each time.
+
+use gen::footprints::{flat, rim};
+use gen::Rng;
+use second::{Piece, Run};
+
+/// A piece of so many corners with a middle within reach.
+pub fn piece_of(index: u64, corners: usize) -> Piece {
+    let rng = &mut Rng::of_case(corners as u64, index);
+    let (x, y) = (rng.range(-2_000, 2_000), rng.range(-2_000, 2_000));
+    let ring: Vec<(i32, i32)> = rim(rng, corners, 20).into_iter().map(|c| (c.0 + x, c.1 + y)).collect();
+    Piece { bottom: 0, top: rng.range(20, 400), velocity: [0; 3], corners: flat(&ring) }
+}
+
+/// The middle of a piece, about.
+fn middle(piece: &Piece) -> (i32, i32) {
+    let n = piece.corners.len() as i32 / 2;
+    let sum = |from: usize| piece.corners[from..].iter().step_by(2).sum::<i32>();
+    (sum(0) / n, sum(1) / n)
+}
+
+/// A run that goes through the piece.
+pub fn near_run(index: u64, piece: &Piece) -> Run {
+    let rng = &mut Rng::of_case(7, index);
+    let (x, y) = middle(piece);
+    let (vx, vy) = (rng.range(5, 30), rng.range(-30, 30));
+    Run { position: [x - 40 * vx, y - 40 * vy, 10], velocity: [vx, vy, 0], ticks: 100 }
+}
+
+/// A run at the same height that passes it by, far away.
+pub fn far_run(index: u64, piece: &Piece) -> Run {
+    let mut run = near_run(index, piece);
+    run.position[0] += 40 * run.velocity[1];
+    run.position[1] += 4_000 - 40 * run.velocity[0];
+    run
+}
+
+/// 40 pieces of 4 to 12 corners, one in eight moving.
+pub fn typical_room() -> Vec<Piece> {
+    (0..40)
+        .map(|i| {
+            let mut piece = piece_of(i, 4 + i as usize % 9);
+            if i % 8 == 0 {
+                piece.velocity = [3, -2, 0];
+            }
+            piece
+        })
+        .collect()
+}
+
+/// As many pieces as a room takes, with as many corners as a piece takes.
+pub fn full_room() -> Vec<Piece> {
+    (0..126).map(|i| piece_of(i, 64)).collect()
+}
+
+/// Runs across the room, each of them so many times in turn.
+pub fn bake_runs(count: usize, times: usize) -> Vec<Run> {
+    (0..count)
+        .map(|i| {
+            let rng = &mut Rng::of_case(11, (i / times) as u64);
+            let position = [rng.range(-3_000, 3_000), rng.range(-3_000, 3_000), rng.range(0, 500)];
+            let velocity = [rng.range(-40, 40), rng.range(-40, 40), rng.range(-4, 4)];
+            Run { position, velocity, ticks: rng.range(1, 200) as u32 }
+        })
+        .collect()
+}
+
+/// The numbers of an exported footprint of 64 corners.
+pub fn exported() -> Vec<f32> {
+    let rng = &mut Rng::of_case(13, 0);
+    (0..128).map(|_| gen::floats::on_grid(rng)).collect()
+}
+
+#[cfg(test)]
+mod tests {
+    use super::*;
+    use second::verdict::{verdict, CLEAR};
+
+    #[test]
+    fn near_runs_are_blocked_and_far_ones_clear() {
+        for corners in [4, 12, 64] {
+            for index in 0..64 {
+                let piece = piece_of(index, corners);
+                assert_eq!(piece.corners.len(), 2 * corners);
+                assert!(verdict(&near_run(index, &piece), &piece).unwrap() < CLEAR);
+                assert_eq!(verdict(&far_run(index, &piece), &piece), Ok(CLEAR));
+            }
+        }
+    }
+
+    #[test]
+    fn rooms_and_bakes_are_not_refused() {
+        let mut list = [0; 126];
+        let images = [typical_room(), full_room()].map(|room| gen::blocks::image(&room));
+        for run in bake_runs(20, 1) {
+            for image in &images {
+                assert!(second::room::room_verdicts(&run, image, &mut list).is_ok());
+            }
+        }
+        assert_eq!(second::intake::intake(&exported(), &mut [0; 128]), Ok(()));
+    }
+}
