@@ -7,9 +7,10 @@ use lib.IntN.{ℤ, pos}
 use lib.Signed.{_≤ℤ_, _<ℤ_}
 use lib.ListN.{length, getD}
 use Rattle.whole.proofs.Order.{le-or-lt, clash, ℕ-or}
-use Rattle.rules.specs.Reach.{Between, Reach, Speed, Ticks, Run, Piece}
+use Rattle.rules.specs.Reach.{Between, Ticks, Run, Piece}
 use Rattle.rules.specs.Refusal.{Passes}
-use Rattle.rules.specs.Good.{Sized, runChecks, pieceChecks, sizedCheck, bandCheck, shapeChecks}
+pub use Rattle.rules.specs.Good.{RunKnown, PieceKnown}
+use Rattle.rules.specs.Good.{runChecks, pieceChecks, sizedCheck, bandCheck, shapeChecks}
 
 -- what is not known to fail, holds: these facts are decided
 pub le-stable : (a b : ℤ) → ((a ≤ℤ b → ⊥) → ⊥) → a ≤ℤ b
@@ -20,16 +21,6 @@ between-stable l h z f = record { above = le-stable _ _ (λ g. f (λ b. g (b .ab
 
 ticks-stable : (n : ℕ) → ((Ticks n → ⊥) → ⊥) → Ticks n
 ticks-stable n f = ⊎-elim (λ h. h) (λ (h : 4096 < n). absurd (f (λ g. absurd (omega arith)))) (ℕ-or n 4096)
-
--- a good run
-pub record RunKnown (r : Run) : Type 0 where
-  pub x : Reach (r .start .x)
-  pub y : Reach (r .start .y)
-  pub z : Reach (r .start .z)
-  pub vx : Speed (r .speed .x)
-  pub vy : Speed (r .speed .y)
-  pub vz : Speed (r .speed .z)
-  pub ticks : Ticks (r .ticks)
 
 pub run-known : (r : Run) → Passes (runChecks r) → RunKnown r
 unfolding runChecks
@@ -42,17 +33,6 @@ run-known r p = record {
   vz = between-stable _ _ _ (p .0 5 (omega arith));
   ticks = ticks-stable (r .ticks) (p .0 6 (omega arith));
 }
-
--- a good piece
-pub record PieceKnown (k : Piece) : Type 0 where
-  pub sized : Sized (k .corners)
-  pub bottom : Reach (k .bottom)
-  pub top : Reach (k .top)
-  pub order : k .bottom ≤ℤ k .top
-  pub vx : Speed (k .speed .x)
-  pub vy : Speed (k .speed .y)
-  pub vz : Speed (k .speed .z)
-  pub corners : (j : ℕ) → j < length (k .corners) → Reach (getD (k .corners) j (pos 0))
 
 pub piece-known : (k : Piece) → Passes (pieceChecks k) → PieceKnown k
 unfolding pieceChecks sizedCheck bandCheck shapeChecks
