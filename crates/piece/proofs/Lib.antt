@@ -1,0 +1,11 @@
+pub mod Moving
+pub mod Touch
+pub mod Tells
+pub mod Decide
+pub mod Steps
+pub mod Shape
+pub mod Back
+pub mod Outline
+pub mod Pairs
+pub mod Finds
+pub mod Scan

@@ -1,5 +1,21 @@
 // The geometry: which runs and pieces are good, where a point lies, and when a run meets a piece.
 // Definitions: the crates `rules` and `refusal`; specs/Numbers.antt says which run and which piece plain numbers are.
+use refusal::Checked;
+use refusal::Refusal;
+ghost use Rattle.rules.specs.Good.{runChecks, pieceChecks};
+ghost use Rattle.refusal.specs.Said.{Finds};
+ghost use Rattle.piece.specs.Numbers.{runOf, pieceOf};
+ghost use Rattle.piece.specs.Tells.{Tells};
+
+mod good;
+mod motion;
+mod number;
+mod reach;
+mod ring;
+mod span;
+mod spot;
+
+pub use motion::Verdict;
 
 // A run in plain numbers.
 pub struct Run {
@@ -19,4 +35,58 @@ pub struct Band {
     pub vx: i32,
     pub vy: i32,
     pub vz: i32,
+}
+
+// Where a point lies.
+pub enum Placed {
+    On,
+    Inside,
+    Outside,
+    Refused(Refusal),
+}
+
+// Whether a run is good.
+pub fn check_run(run: Run) -> Checked
+    ensures { λ r. ⌜ Finds (runChecks (runOf run)) r ⌝ }
+{
+    let k = reach::run_fault(run);
+    if k < 7 {
+        Checked::Refused(Refusal::Reach(2 + 2 * k))
+    } else {
+        Checked::Good
+    }
+}
+
+// Whether a piece is good: the corners' count, the band's numbers, and then the footprint.
+pub fn check_piece(band: Band, corners: &[i32]) -> Checked
+    ensures { λ r. ⌜ Finds (pieceChecks (pieceOf band (now (corners .entry)))) r ⌝ }
+{
+    if !good::sized(corners) {
+        return Checked::Refused(Refusal::Corners);
+    }
+    let k = reach::band_fault(band);
+    if k < 5 {
+        return Checked::Refused(Refusal::Reach(2 + 2 * k));
+    }
+    good::check_shape(corners)
+}
+
+// The verdict of a run and a piece: the run is checked first, then the piece.
+pub fn verdict(run: Run, band: Band, corners: &[i32]) -> Verdict
+    ensures { λ r. ⌜ Tells (runOf run) (pieceOf band (now (corners .entry))) r ⌝ }
+{
+    let first = check_run(run);
+    if let Checked::Refused(x) = first {
+        return Verdict::Refused(x);
+    }
+    let then = check_piece(band, corners);
+    if let Checked::Refused(x) = then {
+        return Verdict::Refused(x);
+    }
+    let mark = motion::code(run, band, corners);
+    if mark == motion::NONE {
+        Verdict::Clear
+    } else {
+        Verdict::Mark(mark)
+    }
 }

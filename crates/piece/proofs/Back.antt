@@ -1,0 +1,34 @@
+-- The number before another around a ring. Assumes nothing.
+use mathlib.Core.Path.{_≡_, refl, sym, ap, _∙_}
+use mathlib.Core.Logic.{⊎-elim}
+use Prim.Native.Nat.{ℕ, _-_, _≤_, _<_}
+use native.Mathlib.Omega.{arith}
+use borrow.Author.Tests.{ne-eqb}
+use Rattle.whole.proofs.Order.{ℕ-or}
+use Rattle.rules.specs.Ring.{next}
+use Rattle.rules.proofs.Ring.{next-ways}
+use Rattle.piece.specs.Shape.{back}
+
+pub back-last : (n : ℕ) → back n 0 ≡ n - 1
+unfolding back
+back-last n = refl
+
+pub back-inner : (n i : ℕ) → 0 < i → back n i ≡ i - 1
+unfolding back
+back-inner n i h = rw (ne-eqb i 0 (λ e. omega arith))
+
+pub back-below : (n i : ℕ) → i < n → back n i < n
+back-below n i h =
+    ⊎-elim (λ (z : i ≤ 0). let e : i ≡ 0 = omega arith in rw (e, back-last n) (omega arith)) (λ (z : 0 < i). rw (back-inner n i z) (omega arith)) (ℕ-or i 0)
+
+pub next-back : (n i : ℕ) → i < n → next n (back n i) ≡ i
+next-back n i h =
+    ⊎-elim (λ (z : i ≤ 0). let e : i ≡ 0 = omega arith in let b = back-last n in let q : back n i ≡ n - 1 = ap (back n) e ∙ b in ⊎-elim (λ w. absurd (omega arith)) (λ w. w .1 ∙ sym e) (next-ways n (back n i) (back-below n i h)))
+    (λ (z : 0 < i). let b = back-inner n i z in ⊎-elim (λ w. omega arith) (λ w. absurd (omega arith)) (next-ways n (back n i) (back-below n i h)))
+    (ℕ-or i 0)
+
+-- at most one number has i for its next
+pub next-one : (n h k : ℕ) → h < n → k < n → next n h ≡ next n k → h ≡ k
+next-one n h k a b e =
+    ⊎-elim (λ w. ⊎-elim (λ v. omega arith) (λ v. absurd (omega arith)) (next-ways n k b)) (λ w. ⊎-elim (λ v. absurd (omega arith)) (λ v. omega arith) (next-ways n k b))
+    (next-ways n h a)

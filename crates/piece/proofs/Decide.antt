@@ -1,0 +1,80 @@
+-- Tests and searches: what a flag says, and a search's step. Assumes nothing.
+use mathlib.Core.Path.{_≡_, refl, sym, subst}
+use mathlib.Core.Bool.{Bool, true, false, not}
+use mathlib.Core.Logic.{_⊎_, inl, inr, ⊎-elim}
+use Prim.Native.Nat.{ℕ, _+_, _^_, _≤_, _<_}
+use native.Mathlib.Omega.{arith}
+use lib.IntN.{ℤ}
+use lib.Signed.{leZ, mag}
+use mir.Syntax.{Width}
+use mir.Val.{hbits, toZ, ofZ}
+use borrow.Author.Tests.{not-true, not-false}
+use Rattle.whole.proofs.Order.{clash, ℕ-or}
+use Rattle.whole.proofs.Flag.{le-true, le-false}
+use Rattle.whole.proofs.Range.{field}
+use Rattle.rules.specs.Reach.{Between}
+use Rattle.rules.specs.Refusal.{First}
+use Rattle.piece.specs.Decide.{Decides, Seeks}
+
+-- ---- a test
+pub yes : (P : Type 0) (t : Bool) → Decides P t → t ≡ true → P
+yes P t h e = subst (Decides P) e h
+
+pub no : (P : Type 0) (t : Bool) → Decides P t → t ≡ false → P → ⊥
+no P t h e = subst (Decides P) e h
+
+-- where P holds the flag is set
+pub truth : (P : Type 0) (t : Bool) → Decides P t → P → t ≡ true
+truth P true h p = refl
+truth P false h p = absurd (h p)
+
+pub decide-by : (P : Type 0) (t : Bool) → (t ≡ true → P) → (t ≡ false → P → ⊥) → Decides P t
+decide-by P true f g = f refl
+decide-by P false f g = g refl
+
+-- the second bound is the answer where the first holds, and the first where it does not
+pub between-yes : (low high z : ℤ) → leZ low z ≡ true → Decides (Between low high z) (leZ z high)
+between-yes low high z e = decide-by _ (leZ z high) (λ f. record { above = le-true low z e; below = le-true z high f }) (λ f b. clash high z (le-false z high f) (b .below))
+
+pub between-no : (low high z : ℤ) → leZ low z ≡ false → Decides (Between low high z) (leZ low z)
+between-no low high z e = rw e (λ b. clash z low (le-false low z e) (b .above))
+
+-- ---- a search
+pub none-found : {Bad : ℕ → Type 0} {n r : ℕ} → Seeks Bad n r → n ≤ r → (j : ℕ) → j < n → Bad j → ⊥
+none-found s h j l = s .before j (omega arith) l
+
+pub first-found : {Bad : ℕ → Type 0} {n r : ℕ} → Seeks Bad n r → r < n → First Bad n r
+first-found s h = record { below = h; bad = s .found h; before = λ j l. s .before j l (omega arith) }
+
+-- the same of what is Bad alike
+pub seeks-map : (Bad Evil : ℕ → Type 0) (n r : ℕ) → ((j : ℕ) → Bad j → Evil j) → ((j : ℕ) → Evil j → Bad j) → Seeks Bad n r → Seeks Evil n r
+seeks-map Bad Evil n r f g s = record { before = λ j a b e. s .before j a b (g j e); found = λ a. f r (s .found a) }
+
+-- none of the first k
+abbrev pub Below : (ℕ → Type 0) → ℕ → Type 0
+Below Bad k = (j : ℕ) → j < k → Bad j → ⊥
+
+pub none-yet : (Bad : ℕ → Type 0) → Below Bad 0
+none-yet Bad j l b = omega arith
+
+pub one-more : (Bad : ℕ → Type 0) (k : ℕ) → Below Bad k → (Bad k → ⊥) → Below Bad (k + 1)
+one-more Bad k h f j l b = ⊎-elim (λ (i : k ≤ j). let e : j ≡ k = omega arith in f (subst Bad e b)) (λ (i : j < k). h j i b) (ℕ-or k j)
+
+pub stop : (Bad : ℕ → Type 0) (n k : ℕ) → Below Bad k → Bad k → Seeks Bad n k
+stop Bad n k h b = record { before = λ j l i. h j l; found = λ l. b }
+
+pub passed : (Bad : ℕ → Type 0) (n : ℕ) → Below Bad n → Seeks Bad n n
+passed Bad n h = record { before = λ j l i. h j l; found = λ l. absurd (omega arith) }
+
+-- ---- a test of signed numbers, as its caller reads them back
+pub taken : (P : ℤ → Type 0) (w : Width) (z : ℤ) (t : Bool) → mag z < 2 ^ hbits w → Decides (P (toZ w (ofZ w z))) t → not t ≡ false → P z
+taken P w z t h d e = subst P (field w z h) (yes _ t d (not-false t e))
+
+pub rejected : (P : ℤ → Type 0) (w : Width) (z : ℤ) (t : Bool) → mag z < 2 ^ hbits w → Decides (P (toZ w (ofZ w z))) t → not t ≡ true → P z → ⊥
+rejected P w z t h d e p = no _ t d (not-true t e) (subst P (sym (field w z h)) p)
+
+pub taken2 : (P : ℤ → ℤ → Type 0) (w : Width) (x y : ℤ) (t : Bool) → mag x < 2 ^ hbits w → mag y < 2 ^ hbits w → Decides (P (toZ w (ofZ w x)) (toZ w (ofZ w y))) t → not t ≡ false → P x y
+taken2 P w x y t h k d e = taken (P x) w y t k (subst (λ (z : ℤ). Decides (P z (toZ w (ofZ w y))) t) (field w x h) d) e
+
+pub rejected2 : (P : ℤ → ℤ → Type 0) (w : Width) (x y : ℤ) (t : Bool) → mag x < 2 ^ hbits w → mag y < 2 ^ hbits w → Decides (P (toZ w (ofZ w x)) (toZ w (ofZ w y))) t → not t ≡ true → P x y → ⊥
+rejected2 P w x y t h k d e = rejected (P x) w y t k (subst (λ (z : ℤ). Decides (P z (toZ w (ofZ w y))) t) (field w x h) d) e

@@ -1,0 +1,172 @@
+-- Clipping keeps a span tame, and what tame numbers give fits. Assumes nothing.
+use mathlib.Core.Path.{_≡_, refl, sym, subst, _∙_}
+use mathlib.Core.Bool.{Bool, true, false, cond}
+use Prim.Native.Nat.{ℕ, zero, suc, _+_, _*_, _≤_, _<_}
+use native.Mathlib.Omega.{arith}
+use lib.Dec.{T, leb→le}
+use lib.IntN.{ℤ, pos, negsuc, negℤ, natAbs, _+ℤ_, _-ℤ_, _*ℤ_}
+use lib.Signed.{_≤ℤ_, _<ℤ_, ltZ, quotZ, nonNeg}
+use mir.Syntax.{w64}
+use mir.Val.{SFits, toZ, ofZ}
+use mir.Facts.{toZ-ofZ}
+use Rattle.whole.proofs.Difference.{all, all2, all3, ring}
+use Rattle.whole.proofs.Order.{nn-mul, pos-mul, mul-mono, cancel, cancel-lt, le-trans, lt-le, nn-factor}
+use Rattle.whole.proofs.Flag.{lt-true, lt-false, le-true}
+use Rattle.whole.proofs.Polynomial.{vars2, vars3, poly, num-val, by-ring}
+use Rattle.whole.proofs.Range.{fits, abs-mul-le, abs-neg, quot}
+use Rattle.decide.specs.Span.{Span, raise, lower, none, clip, some, first}
+use Rattle.piece.specs.Moving.{Tame, Small, Bounds, Slope, Crossed}
+
+pick : {A : Type 0} (P : A → Type 0) (t : Bool) (x y : A) → (t ≡ true → P x) → (t ≡ false → P y) → P (cond t x y)
+pick P true x y f g = f refl
+pick P false x y f g = g refl
+
+le-lt : (a b c : ℤ) → a ≤ℤ b → b <ℤ c → a <ℤ c
+le-lt = all3 _ λ a a′ b b′ c c′. simp ring (omega arith)
+
+lt-then : (a b c : ℤ) → a <ℤ b → b ≤ℤ c → a <ℤ c
+lt-then = all3 _ λ a a′ b b′ c c′. simp ring (omega arith)
+
+swap : (a b c : ℤ) → (a *ℤ b) *ℤ c ≡ (a *ℤ c) *ℤ b
+swap = vars3 _ λ ρ. simp poly (by-ring _ _ _ tt)
+
+turn : (b : ℤ) → b <ℤ pos 0 → pos 0 <ℤ negℤ b
+turn = all _ λ a a′. simp ring (omega arith)
+
+module _ (N D : ℕ) (s : Span) (h : Tame N D s) where
+  pub tame-raise : (n d : ℤ) → pos 0 <ℤ d → natAbs n ≤ N → natAbs d ≤ D → Tame N D (raise s n d)
+  unfolding raise
+  tame-raise n d l i j =
+      pick (Tame N D) (ltZ (s .lowN *ℤ d) (n *ℤ s .lowD)) _ _
+      (λ e. record {
+        begin = nn-factor n (s .lowD) (h .low) (le-trans _ _ _ (nn-mul (s .lowN) d (h .begin) (lt-le _ _ l)) (lt-le _ _ (lt-true _ _ e)));
+        end = h .end;
+        low = l;
+        high = h .high;
+        lowN = i;
+        lowD = j;
+        highN = h .highN;
+        highD = h .highD;
+      })
+      (λ e. h)
+
+  pub tame-lower : (n d : ℤ) → pos 0 <ℤ d → natAbs n ≤ N → natAbs d ≤ D → Tame N D (lower s n d)
+  unfolding lower
+  tame-lower n d l i j =
+      pick (Tame N D) (ltZ (n *ℤ s .highD) (s .highN *ℤ d)) _ _
+      (λ e. record {
+        begin = h .begin;
+        end = lt-le _ _ (cancel-lt n (pos 4096 *ℤ d) (s .highD) (h .high)
+            (lt-then _ _ _ (lt-true _ _ e) (rw (swap (pos 4096) d (s .highD)) (mul-mono (s .highN) (pos 4096 *ℤ s .highD) d (h .end) (lt-le _ _ l)))));
+        low = h .low;
+        high = l;
+        lowN = h .lowN;
+        lowD = h .lowD;
+        highN = i;
+        highD = j;
+      })
+      (λ e. h)
+
+  pub tame-none : 1 ≤ N → 1 ≤ D → Tame N D (none s)
+  unfolding none
+  tame-none i j = record { begin = h .begin; end = record { le = tt }; low = h .low; high = record { lt = tt }; lowN = h .lowN; lowD = h .lowD; highN = i; highD = j }
+
+  pub tame-clip : (a b : ℤ) → 1 ≤ N → 1 ≤ D → Bounds N D a b → Tame N D (clip s a b)
+  unfolding clip
+  tame-clip a b i j k =
+      pick (Tame N D) (ltZ (pos 0) b) _ _
+      (λ e. tame-raise (negℤ a) b (lt-true _ _ e) (rw (abs-neg a) (k .base)) (k .slope))
+      (λ e. pick (Tame N D) (ltZ b (pos 0)) _ _
+      (λ e. tame-lower a (negℤ b) (turn b (lt-true _ _ e)) (k .base) (rw (abs-neg b) (k .slope)))
+      (λ e. pick (Tame N D) (ltZ a (pos 0)) _ _ (λ e. tame-none i j) (λ e. h)))
+
+  pub wider : (N′ D′ : ℕ) → N ≤ N′ → D ≤ D′ → Tame N′ D′ s
+  wider N′ D′ i j = record { begin = h .begin; end = h .end; low = h .low; high = h .high; lowN = omega (arith, h .lowN); lowD = omega (arith, h .lowD); highN = omega (arith, h .highN); highD = omega (arith, h .highD) }
+
+pub small-clip : (s : Span) (a b : ℤ) → Small s → Slope a b → Small (clip s a b)
+small-clip s a b h k = tame-clip _ _ s h a b (omega arith) (omega arith) k
+
+-- ---- what fits
+tame-fits : (x y : ℤ) → natAbs x ≤ 8589934592 → natAbs y ≤ 67108864 → SFits w64 (x *ℤ y)
+tame-fits x y h k = fits w64 _ (omega (arith, abs-mul-le x y 8589934592 67108864 h k))
+
+pub crossed : (s : Span) (n d : ℤ) → Small s → Slope n d → Crossed s n d
+crossed s n d h k = record {
+  low = tame-fits (s .lowN) d (h .lowN) (k .slope);
+  low′ = tame-fits n (s .lowD) (k .base) (h .lowD);
+  high = tame-fits n (s .highD) (k .base) (h .highD);
+  high′ = tame-fits (s .highN) d (h .highN) (k .slope);
+}
+
+zero-sub : (a : ℤ) → pos 0 -ℤ a ≡ negℤ a
+zero-sub = all _ λ a a′. simp ring (omega arith)
+
+-- a sign that the code turns
+pub turned-fits : (a : ℤ) → natAbs a ≤ 8589934592 → SFits w64 (pos 0 -ℤ a)
+turned-fits a h = rw (zero-sub a) (fits w64 _ (rw (abs-neg a) (omega arith)))
+
+pub turned : (a : ℤ) → natAbs a ≤ 8589934592 → toZ w64 (ofZ w64 (pos 0 -ℤ a)) ≡ negℤ a
+turned a h = toZ-ofZ (turned-fits a h) ∙ zero-sub a
+
+-- ---- clip by the signs of its numbers
+module _ (s : Span) (a b : ℤ) where
+  pub clip-up : ltZ (pos 0) b ≡ true → raise s (negℤ a) b ≡ clip s a b
+  unfolding clip
+  clip-up e = rw e
+
+  pub clip-down : ltZ (pos 0) b ≡ false → ltZ b (pos 0) ≡ true → lower s a (negℤ b) ≡ clip s a b
+  unfolding clip
+  clip-down e f = rw (e, f)
+
+  pub clip-none : ltZ (pos 0) b ≡ false → ltZ b (pos 0) ≡ false → ltZ a (pos 0) ≡ true → none s ≡ clip s a b
+  unfolding clip
+  clip-none e f g = rw (e, f, g)
+
+  pub clip-all : ltZ (pos 0) b ≡ false → ltZ b (pos 0) ≡ false → ltZ a (pos 0) ≡ false → s ≡ clip s a b
+  unfolding clip
+  clip-all e f g = rw (e, f, g)
+
+-- ---- the mark of a span's begin
+pub some-fits : (s : Span) → Small s → SFits w64 (s .lowN *ℤ s .highD) × SFits w64 (s .highN *ℤ s .lowD)
+some-fits s h = (tame-fits (s .lowN) (s .highD) (h .lowN) (h .highD), tame-fits (s .highN) (s .lowD) (h .highN) (h .lowD))
+
+-- it begins by 4,096 ticks
+begin-by : (s : Span) → Small s → some s ≡ true → s .lowN ≤ℤ (pos 4096 *ℤ s .lowD)
+begin-by s h e =
+    cancel _ _ (s .highD) (h .high)
+    (le-trans _ _ _ (le-true _ _ e) (rw (swap (pos 4096) (s .lowD) (s .highD)) (mul-mono (s .highN) (pos 4096 *ℤ s .highD) (s .lowD) (h .end) (lt-le _ _ (h .low)))))
+
+scale-up : (n d : ℤ) → n ≤ℤ (pos 4096 *ℤ d) → (pos 256 *ℤ n) ≤ℤ (pos 1048576 *ℤ d)
+scale-up = all2 _ λ a a′ b b′. simp ring (omega arith)
+
+quot-sign : (n d : ℤ) → pos 0 ≤ℤ n → pos 0 <ℤ d → T (nonNeg (quotZ n d))
+quot-sign (pos n) (pos d) h k = tt
+quot-sign (pos n) (negsuc d) h k = absurd (k .lt)
+quot-sign (negsuc n) d h k = absurd (h .le)
+
+below : (B : ℕ) (z : ℤ) → T (nonNeg z) → z ≤ℤ pos B → natAbs z ≤ B
+below B (pos n) h k = leb→le n B (k .le)
+below B (negsuc n) h k = absurd h
+
+-- the steps of the mark: 256 lowN / lowD
+pub record MarkSteps (s : Span) : Type 0 where
+  pub scaled : SFits w64 (pos 256 *ℤ s .lowN)
+  pub divisor : 0 < ofZ w64 (s .lowD)
+  pub sign : T (nonNeg (quotZ (pos 256 *ℤ s .lowN) (s .lowD)))
+  pub most : first s ≤ 1048576
+
+pub mark-steps : (s : Span) → Small s → some s ≡ true → MarkSteps s
+mark-steps s h e =
+    let p = nn-mul (pos 256) (s .lowN) (record { le = tt }) (h .begin) in
+    let q = quot (pos 256 *ℤ s .lowN) (s .lowD) p (h .low) in
+    let t = quot-sign (pos 256 *ℤ s .lowN) (s .lowD) p (h .low) in
+    record {
+      scaled = fits w64 _ (omega (arith, abs-mul-le (pos 256) (s .lowN) 256 8589934592 (omega arith) (h .lowN)));
+      divisor = q .nonzero w64;
+      sign = t;
+      most = below 1048576 (quotZ (pos 256 *ℤ s .lowN) (s .lowD)) t (cancel (quotZ (pos 256 *ℤ s .lowN) (s .lowD)) (pos 1048576) (s .lowD) (h .low) (le-trans _ _ _ (q .low) (scale-up (s .lowN) (s .lowD) (begin-by s h e))));
+    }
+
+-- a mark, as the code reads it back
+pub mark-fits : (s : Span) → MarkSteps s → SFits w64 (quotZ (pos 256 *ℤ s .lowN) (s .lowD))
+mark-fits s m = fits w64 _ (omega (arith, m .most))

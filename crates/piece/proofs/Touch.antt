@@ -1,0 +1,270 @@
+-- What a motion and an edge within reach give is small. Assumes nothing.
+use mathlib.Core.Path.{_≡_}
+use mathlib.Core.Bool.{Bool, true, false, cond}
+use Prim.Native.Nat.{ℕ, _+_, _*_, _/_, _%_, _≤_}
+use native.Mathlib.Omega.{arith}
+use lib.Dec.{le→leb}
+use lib.IntN.{ℤ, pos, negsuc, negℤ, natAbs, _+ℤ_, _-ℤ_, _*ℤ_}
+use lib.ListN.{length}
+use lib.Signed.{leZ}
+use mir.Syntax.{w32, w64}
+use mir.Val.{SFits, toZ, ofZ}
+use mir.Facts.{toZ-ofZ}
+use Rattle.whole.proofs.Range.{fits, abs-by, abs-add, abs-sub, abs-mul-le, abs-neg}
+use Rattle.rules.specs.Reach.{Speed, Run, Piece}
+use Rattle.rules.specs.Ring.{Pt, Ring}
+use Rattle.rules.specs.Place.{Where}
+use Rattle.rules.proofs.Reach.{RunKnown, PieceKnown}
+use Rattle.rules.proofs.Segment.{o}
+use Rattle.decide.specs.Span.{Span, ticks, some, first}
+use Rattle.decide.specs.Touch.{NONE, least, most, swing, across, sameSide, onLine, within, onEdge, touch, touches, bandSpan, startPoint, over, pointOf, motion, place, fromPlace, meets}
+use Rattle.piece.specs.Moving.{Tame, Small, Bounds, Slope}
+use Rattle.piece.specs.Touch.{Close, Slow, Ready, Flat, Standing, Level, AlongSteps, AcrossSteps, SwingSteps}
+use Rattle.piece.specs.Steps.{SideSteps}
+use Rattle.piece.proofs.Steps.{reach-abs, Wide}
+use Rattle.piece.proofs.Steps as steps
+use Rattle.piece.proofs.Moving.{tame-clip, wider, small-clip}
+
+-- numbers within reach, and their differences
+pub reached : (z : ℤ) → natAbs z ≤ 16384 → natAbs z ≤ 32768
+reached z h = omega arith
+
+diff : (a b : ℤ) → natAbs a ≤ 16384 → natAbs b ≤ 16384 → natAbs (a -ℤ b) ≤ 32768
+diff a b h k = omega (arith, abs-sub a b)
+
+fit : (z : ℤ) → natAbs z ≤ 4294967296 → SFits w64 z
+fit z h = fits w64 z (omega arith)
+
+-- a small number, read back
+pub back : (z : ℤ) → natAbs z ≤ 32768 → toZ w64 (ofZ w64 z) ≡ z
+back z h = toZ-ofZ (fit z (omega arith))
+
+fit-mul : (x y : ℤ) → natAbs x ≤ 32768 → natAbs y ≤ 32768 → SFits w64 (x *ℤ y)
+fit-mul x y h k = fit (x *ℤ y) (omega (arith, abs-mul-le x y 32768 32768 h k))
+
+-- x v − y u
+cross-most : (x y u v : ℤ) (B : ℕ) → natAbs x ≤ 32768 → natAbs y ≤ 32768 → natAbs u ≤ B → natAbs v ≤ B → natAbs (x *ℤ v -ℤ y *ℤ u) ≤ 65536 * B
+cross-most x y u v B h i j k = omega (arith, abs-sub (x *ℤ v) (y *ℤ u), abs-mul-le x v 32768 B h k, abs-mul-le y u 32768 B i j)
+
+pub wide : (z : ℤ) → natAbs z ≤ 510 → natAbs z ≤ 32768
+wide z h = omega arith
+
+pub across-steps : (p w : Pt) (x y : ℤ) → Close p → Slow w → natAbs x ≤ 16384 → natAbs y ≤ 16384 → AcrossSteps p w x y
+across-steps p w x y h k i j =
+    let u = diff x (p .x) i (h .x) in
+    let v = diff y (p .y) j (h .y) in
+    record {
+      up = fit _ (omega (arith, v));
+      along = fit _ (omega (arith, u));
+      first = fit-mul (w .x) (y -ℤ p .y) (wide (w .x) (k .x)) v;
+      second = fit-mul (w .y) (x -ℤ p .x) (wide (w .y) (k .y)) u;
+      all = fit _ (omega (arith, cross-most (w .x) (w .y) (x -ℤ p .x) (y -ℤ p .y) 32768 (wide (w .x) (k .x)) (wide (w .y) (k .y)) u v));
+    }
+
+module _ (p w : Pt) (s : Span) (a b : Pt) (h : Ready p w s a b) where
+  run : natAbs (b .x -ℤ a .x) ≤ 32768
+  run = diff (b .x) (a .x) (h .to .x) (h .from .x)
+
+  rise : natAbs (b .y -ℤ a .y) ≤ 32768
+  rise = diff (b .y) (a .y) (h .to .y) (h .from .y)
+
+  along : natAbs (p .x -ℤ a .x) ≤ 32768
+  along = diff (p .x) (a .x) (h .start .x) (h .from .x)
+
+  up : natAbs (p .y -ℤ a .y) ≤ 32768
+  up = diff (p .y) (a .y) (h .start .y) (h .from .y)
+
+  side-most : natAbs (o a b p) ≤ 65536 * 32768
+  side-most = cross-most (b .x -ℤ a .x) (b .y -ℤ a .y) (p .x -ℤ a .x) (p .y -ℤ a .y) 32768 run rise along up
+
+  swing-most : natAbs (swing a b w) ≤ 65536 * 510
+  swing-most = cross-most (b .x -ℤ a .x) (b .y -ℤ a .y) (w .x) (w .y) 510 run rise (h .speed .x) (h .speed .y)
+
+  far : (z : ℤ) → natAbs z ≤ 16384 → Wide z
+  far z k = omega arith
+
+  pub side-steps : SideSteps (a .x) (a .y) (b .x) (b .y) (p .x) (p .y)
+  side-steps =
+      steps.side-steps _ _ _ _ _ _ (far (a .x) (h .from .x)) (far (a .y) (h .from .y)) (far (b .x) (h .to .x)) (far (b .y) (h .to .y)) (far (p .x) (h .start .x)) (far (p .y) (h .start .y))
+
+  pub swing-steps : SwingSteps a b w
+  swing-steps = record {
+    run = fit _ (omega (arith, run));
+    rise = fit _ (omega (arith, rise));
+    first = fit-mul (b .x -ℤ a .x) (w .y) run (wide (w .y) (h .speed .y));
+    second = fit-mul (b .y -ℤ a .y) (w .x) rise (wide (w .x) (h .speed .x));
+    all = fit _ (omega (arith, swing-most));
+  }
+
+  -- the line's inequality, and the other way round
+  pub line : Slope (o a b p) (swing a b w)
+  line = record { base = omega (arith, side-most); slope = omega (arith, swing-most) }
+
+  pub line′ : Slope (negℤ (o a b p)) (negℤ (swing a b w))
+  line′ = record { base = rw (abs-neg (o a b p)) (line .base); slope = rw (abs-neg (swing a b w)) (line .slope) }
+
+  pub small-line : Small (onLine p w s a b)
+  unfolding onLine
+  small-line = small-clip _ _ _ (small-clip s _ _ (h .span) line) line′
+
+-- ---- along one coordinate
+least-most : (a b : ℤ) → natAbs a ≤ 16384 → natAbs b ≤ 16384 → natAbs (least a b) ≤ 16384
+least-most a b h k = pick (leZ a b)
+  where
+    pick : (t : Bool) → natAbs (cond t a b) ≤ 16384
+    pick true = h
+    pick false = k
+
+most-most : (a b : ℤ) → natAbs a ≤ 16384 → natAbs b ≤ 16384 → natAbs (most a b) ≤ 16384
+most-most a b h k = pick (leZ a b)
+  where
+    pick : (t : Bool) → natAbs (cond t b a) ≤ 16384
+    pick true = k
+    pick false = h
+
+module _ (p w : ℤ) (s : Span) (a b : ℤ) (h : Flat p w s a b) where
+  low-most : natAbs (p -ℤ least a b) ≤ 32768
+  low-most = diff p (least a b) (h .start) (least-most a b (h .from) (h .to))
+
+  high-most : natAbs (most a b -ℤ p) ≤ 32768
+  high-most = diff (most a b) p (most-most a b (h .from) (h .to)) (h .start)
+
+  pub low-fits : SFits w64 (p -ℤ least a b)
+  low-fits = fit _ (omega (arith, low-most))
+
+  pub high-fits : SFits w64 (most a b -ℤ p)
+  high-fits = fit _ (omega (arith, high-most))
+
+  pub low : Slope (p -ℤ least a b) w
+  low = record { base = omega (arith, low-most); slope = omega (arith, h .speed) }
+
+  pub high : Slope (most a b -ℤ p) (negℤ w)
+  high = record { base = omega (arith, high-most); slope = rw (abs-neg w) (omega (arith, h .speed)) }
+
+  pub small-within : Small (within p w s a b)
+  unfolding within
+  small-within = small-clip _ _ _ (small-clip s _ _ (h .span) low) high
+
+module _ (p w : Pt) (s : Span) (a b : Pt) (h : Ready p w s a b) where
+  pub flat-x : Flat (p .x) (w .x) (onLine p w s a b) (a .x) (b .x)
+  flat-x = record { start = h .start .x; speed = h .speed .x; span = small-line p w s a b h; from = h .from .x; to = h .to .x }
+
+  pub flat-y : Flat (p .y) (w .y) (within (p .x) (w .x) (onLine p w s a b) (a .x) (b .x)) (a .y) (b .y)
+  flat-y = record { start = h .start .y; speed = h .speed .y; span = small-within (p .x) (w .x) _ (a .x) (b .x) flat-x; from = h .from .y; to = h .to .y }
+
+  pub small-edge : Small (onEdge p w s a b)
+  unfolding onEdge
+  small-edge = small-within (p .y) (w .y) _ (a .y) (b .y) flat-y
+
+-- ---- the first mark on an edge, by its tests
+module _ (p w : Pt) (s : Span) (a b : Pt) where
+  pub touch-aside : sameSide (across p w a) (across p w b) ≡ true → NONE ≡ touch p w s a b
+  unfolding touch
+  touch-aside e = rw e
+
+  pub touch-some : sameSide (across p w a) (across p w b) ≡ false → some (onEdge p w s a b) ≡ true → first (onEdge p w s a b) ≡ touch p w s a b
+  unfolding touch
+  touch-some e f = rw (e, f)
+
+  pub touch-none : sameSide (across p w a) (across p w b) ≡ false → some (onEdge p w s a b) ≡ false → NONE ≡ touch p w s a b
+  unfolding touch
+  touch-none e f = rw (e, f)
+
+-- ---- plain numbers
+wide32 : (z : ℤ) → SFits w32 z → natAbs z ≤ 2147483648
+wide32 (pos n) h = let l = h .sfits in omega (arith, l)
+wide32 (negsuc n) h = let l = h .sfits in omega (arith, l)
+
+pub gap-fits : (a b : ℤ) → SFits w32 a → SFits w32 b → SFits w64 (a -ℤ b)
+gap-fits a b h k = fit (a -ℤ b) (omega (arith, abs-sub a b, wide32 a h, wide32 b k))
+
+-- a velocity
+pub swift : (z : ℤ) → natAbs z ≤ 255 → natAbs z ≤ 32768
+swift z h = omega arith
+
+pub back32 : (z : ℤ) → natAbs z ≤ 32768 → toZ w32 (ofZ w32 z) ≡ z
+back32 z h = toZ-ofZ (fits w32 z (omega arith))
+
+pub minus : (a b c d : ℤ) → c ≡ a → d ≡ b → c -ℤ d ≡ a -ℤ b
+minus a b c d e f = rw (e, f)
+
+-- ---- the band
+pub tame-ticks : (t : ℕ) → t ≤ 4096 → Tame 32768 510 (ticks (pos t))
+tame-ticks t h = record { begin = record { le = tt }; end = record { le = le→leb t 4096 h }; low = record { lt = tt }; high = record { lt = tt }; lowN = omega arith; lowD = omega arith; highN = omega arith; highD = omega arith }
+
+abbrev pub climb : Run → Piece → ℤ
+climb r k = r .speed .z -ℤ k .speed .z
+
+module _ (r : Run) (k : Piece) (h : Level r k) where
+  rise-most : natAbs (climb r k) ≤ 510
+  rise-most = omega (arith, abs-sub (r .speed .z) (k .speed .z), h .rise, h .lift)
+
+  pub over-bottom : Bounds 32768 510 (r .start .z -ℤ k .bottom) (climb r k)
+  over-bottom = record { base = diff (r .start .z) (k .bottom) (h .start) (h .bottom); slope = rise-most }
+
+  pub under-top : Bounds 32768 510 (k .top -ℤ r .start .z) (negℤ (climb r k))
+  under-top = record { base = diff (k .top) (r .start .z) (h .top) (h .start); slope = rw (abs-neg (climb r k)) rise-most }
+
+  pub tame-band : Tame 32768 510 (bandSpan r k)
+  unfolding bandSpan
+  tame-band =
+      tame-clip _ _ _ (tame-clip _ _ _ (tame-ticks (r .ticks) (h .ticks)) _ _ (omega arith) (omega arith) over-bottom) _ _ (omega arith) (omega arith) under-top
+
+pub small-ticks : (t : ℕ) → t ≤ 4096 → Small (ticks (pos t))
+small-ticks t h = wider 32768 510 (ticks (pos t)) (tame-ticks t h) _ _ (omega arith) (omega arith)
+
+pub slope-of : (a b : ℤ) → Bounds 32768 510 a b → Slope a b
+slope-of a b h = record { base = omega (arith, h .base); slope = omega (arith, h .slope) }
+
+-- ---- the point over the denominator of a span's begin
+module _ (d p n w : ℤ) (h : natAbs d ≤ 510) (i : natAbs p ≤ 16384) (j : natAbs n ≤ 32768) (k : natAbs w ≤ 510) where
+  pub along-most : natAbs (d *ℤ p +ℤ n *ℤ w) ≤ 25067520
+  along-most = omega (arith, abs-add (d *ℤ p) (n *ℤ w), abs-mul-le d p 510 16384 h i, abs-mul-le n w 32768 510 j k)
+
+  pub along-steps : AlongSteps d p n w
+  along-steps = record {
+    first = fit-mul d p (wide d h) (reached p i);
+    second = fit-mul n w j (wide w k);
+    all = fit _ (omega (arith, along-most));
+  }
+
+-- ---- the first mark within a span, by its tests
+module _ (r : Ring) (p w : Pt) (s : Span) where
+  pub meets-none : some s ≡ false → NONE ≡ meets r p w s
+  unfolding meets
+  meets-none e = rw e
+
+  pub meets-at : (v : Where) → some s ≡ true → v ≡ place (over (s .lowD) r) (startPoint p w s) → fromPlace v (first s) (touches r p w s (r .size)) ≡ meets r p w s
+  unfolding meets
+  meets-at v e h = rw (e, h)
+
+-- ---- numbers that are taken
+speed-abs : (z : ℤ) → Speed z → natAbs z ≤ 255
+speed-abs z h = abs-by 255 z (h .above) (h .below)
+
+-- the list of a good piece
+half : (n : ℕ) → n % 2 ≡ 0 → n ≡ 2 * (n / 2)
+half n h = omega (arith, h)
+
+module _ (r : Run) (k : Piece) (h : RunKnown r) (g : PieceKnown k) where
+  pub level : Level r k
+  level = record {
+    start = reach-abs (r .start .z) (h .z);
+    bottom = reach-abs (k .bottom) (g .bottom);
+    top = reach-abs (k .top) (g .top);
+    rise = speed-abs (r .speed .z) (h .vz);
+    lift = speed-abs (k .speed .z) (g .vz);
+    ticks = h .ticks;
+  }
+
+  pub standing : Standing (k .corners) (pointOf r) (motion r k) (bandSpan r k)
+  standing = record {
+    held = record { corners = g .sized .corners; whole = half (length (k .corners)) (g .sized .even) };
+    corners = λ j l. let e = half (length (k .corners)) (g .sized .even) in record { below = l; x = g .corners (2 * j) (omega (arith, l, e)); y = g .corners (2 * j + 1) (omega (arith, l, e)) };
+    start = record { x = reach-abs (r .start .x) (h .x); y = reach-abs (r .start .y) (h .y) };
+    speed = record {
+      x = omega (arith, abs-sub (r .speed .x) (k .speed .x), speed-abs (r .speed .x) (h .vx), speed-abs (k .speed .x) (g .vx));
+      y = omega (arith, abs-sub (r .speed .y) (k .speed .y), speed-abs (r .speed .y) (h .vy), speed-abs (k .speed .y) (g .vy));
+    };
+    span = wider 32768 510 (bandSpan r k) (tame-band r k level) _ _ (omega arith) (omega arith);
+  }

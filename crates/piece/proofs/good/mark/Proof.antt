@@ -1,0 +1,16 @@
+-- `good::mark` is what it says. Assumes nothing.
+use borrow.Author.Tests.{lt-ltb, le-ltb}
+use Rattle.piece.proofs.good.mark.Statement.{statement}
+use Rattle.piece.proofs.good.mark.Tie as tie
+
+returns : tie.Need-returns
+returns c = rw (lt-ltb _ _ (c .if1 .taken))
+
+returns-2 : tie.Need-returns-2
+returns-2 c = rw (le-ltb _ _ (c .before .if1 .left), c .if2 .taken)
+
+returns-3 : tie.Need-returns-3
+returns-3 c = rw (le-ltb _ _ (c .before .if1 .left), c .if2 .left)
+
+pub mark-spec : {M : Type 1} → statement M
+mark-spec = tie.close (tie.spec returns returns-2 returns-3)

@@ -1,0 +1,156 @@
+-- `motion::touches` is touches over all edges. Assumes nothing.
+use mathlib.Core.List.{List}
+use mathlib.Core.Path.{_≡_, refl, sym, ap, subst, _∙_}
+use Prim.Native.Nat.{ℕ, suc, _+_, _*_, _/_, _≤_, _<_, _-_, min}
+use native.Mathlib.Omega.{arith}
+use native.Mathlib.Numerals.{add-one}
+use borrow.Author.Needs.{needs}
+use lib.IntN.{ℤ}
+use lib.ListN.{length}
+use mir.Syntax.{w64}
+use mir.Val.{toZ, ofZ}
+use Rattle.whole.proofs.Range.{read}
+use Rattle.rules.specs.Ring.{Pt, ring, next, from, to}
+use Rattle.rules.proofs.Ring.{next-inner, next-below}
+use Rattle.decide.specs.Touch.{across, touch, touches}
+use Rattle.piece.specs.declared.motion.Motion.{Motion}
+use Rattle.piece.specs.declared.span.Span.{Span}
+use Rattle.piece.specs.Moving.{spanOf}
+use Rattle.piece.specs.Touch.{startOf, speedOf, Close, Ready, Standing, AcrossSteps}
+use Rattle.piece.proofs.Steps.{reach-abs}
+use Rattle.piece.proofs.Touch.{across-steps}
+use Rattle.piece.proofs.motion.touches.Statement.{statement}
+use Rattle.piece.proofs.motion.touches.Tie as tie
+
+abbrev pt : ℤ → ℤ → Pt
+pt x y = record { x = x; y = y }
+
+-- corner i, and its side
+record At (l : List ℤ) (m : Motion) (i : ℕ) (ax ay c : ℤ) : Type 0 where
+  corner : pt ax ay ≡ ring l .at i
+  side : c ≡ across (startOf m) (speedOf m) (pt ax ay)
+
+record Kept (l : List ℤ) (m : Motion) (s : Span) (n best : ℕ) (ax ay c : ℤ) (i : ℕ) : Type 0 where
+  bound : i ≤ n
+  first : best ≡ touches (ring l) (startOf m) (speedOf m) (spanOf s) i
+  here : i < n → At l m i ax ay c
+
+abbrev Inv-loop : tie.InvT-loop
+Inv-loop l m s n best₀ ax₀ ay₀ c₀ i₀ best ax ay c i = Kept l m s n best (toZ w64 ax) (toZ w64 ay) (toZ w64 c) i
+
+abbrev μ-loop : tie.MeasureT-loop
+μ-loop l m s n best₀ ax₀ ay₀ c₀ i₀ best ax ay c i = n - i
+
+corner-is : (l : List ℤ) (i : ℕ) (x y : ℤ) → x ≡ ring l .at i .x → y ≡ ring l .at i .y → pt x y ≡ ring l .at i
+corner-is l i x y e f = rw (e, f)
+
+module _ (l : List ℤ) (m : Motion) (s : Span) (h : Standing l (startOf m) (speedOf m) (spanOf s)) where
+  close : (i : ℕ) → i < ring l .size → Close (ring l .at i)
+  close i k = let c = h .corners i k in record { x = reach-abs _ (c .x); y = reach-abs _ (c .y) }
+
+  some : 0 < ring l .size
+  some = let k = h .held .corners .least in omega (arith, k)
+
+  crossed : (i : ℕ) (x y : ℤ) → i < ring l .size → pt x y ≡ ring l .at i → AcrossSteps (startOf m) (speedOf m) x y
+  crossed i x y k e = let n = subst Close (sym e) (close i k) in across-steps (startOf m) (speedOf m) x y (h .start) (h .speed) (n .x) (n .y)
+
+  ready : (i j : ℕ) (ax ay c bx by d : ℤ) → i < ring l .size → j < ring l .size → At l m i ax ay c → At l m j bx by d → Ready (startOf m) (speedOf m) (spanOf s) (pt ax ay) (pt bx by)
+  ready i j ax ay c bx by d u v a b = record { start = h .start; speed = h .speed; span = h .span; from = subst Close (sym (a .corner)) (close i u); to = subst Close (sym (b .corner)) (close j v) }
+
+  -- one edge more
+  step : (i best t b : ℕ) (ax ay c bx by d : ℤ) → best ≡ touches (ring l) (startOf m) (speedOf m) (spanOf s) i
+      → At l m i ax ay c → At l m (next (ring l .size) i) bx by d
+      → t ≡ touch (startOf m) (speedOf m) (spanOf s) (pt ax ay) (pt bx by) → b ≡ min best t
+      → b ≡ touches (ring l) (startOf m) (speedOf m) (spanOf s) (i + 1)
+  unfolding touches
+  step i best t b ax ay c bx by d e f g u v = rw (add-one i, v, e, u, f .corner, g .corner)
+
+x-requires : tie.Need-x-requires Inv-loop μ-loop
+x-requires c κs = some (c .args .l .now) (c .args .m) (c .args .s) (c .pre)
+
+y-requires : tie.Need-y-requires Inv-loop μ-loop
+y-requires c κs = let b = c .before in some (b .args .l .now) (b .args .m) (b .args .s) (b .pre)
+
+-- corner 0
+corner-0 : (c : tie.After-y Inv-loop μ-loop) → pt (toZ w64 (ofZ w64 (c .before .x .result))) (toZ w64 (ofZ w64 (c .y .result))) ≡ ring (c .before .before .args .l .now) .at 0
+corner-0 c = corner-is (c .before .before .args .l .now) 0 _ _ (read w64 (c .before .x .ok) (c .before .x .ensures)) (read w64 (c .y .ok) (c .y .ensures))
+
+across-requires : tie.Need-across-requires Inv-loop μ-loop
+across-requires c κs = let b = c .before .before in crossed (b .args .l .now) (b .args .m) (b .args .s) (b .pre) 0 _ _ (some (b .args .l .now) (b .args .m) (b .args .s) (b .pre)) (corner-0 c)
+
+loop-holds : tie.Need-loop-holds Inv-loop μ-loop
+unfolding touches
+loop-holds c = record { bound = omega arith; first = refl; here = λ h. record { corner = corner-0 (c .before); side = read w64 (c .across .ok) (c .across .ensures) } }
+
+next-requires : tie.Need-next-requires Inv-loop μ-loop
+next-requires c κs = c .loop-test .taken
+
+-- the next corner's number
+below : (c : tie.After-next Inv-loop μ-loop) → c .next .result < length (c .before .before .before .before .before .before .args .l .now) / 2
+below c = rw (c .next .ensures) (next-below _ _ (c .before .loop-test .taken))
+
+x-requires-2 : tie.Need-x-requires-2 Inv-loop μ-loop
+x-requires-2 c κs = below c
+
+y-requires-2 : tie.Need-y-requires-2 Inv-loop μ-loop
+y-requires-2 c κs = below (c .before)
+
+corner-next : (c : tie.After-y2 Inv-loop μ-loop) →
+    let l = c .before .before .before .before .before .before .before .before .args .l .now in
+    pt (toZ w64 (ofZ w64 (c .before .x2 .result))) (toZ w64 (ofZ w64 (c .y2 .result))) ≡ ring l .at (next (ring l .size) (c .before .before .before .before .loop .i))
+corner-next c = rw (← c .before .before .next .ensures) (corner-is (c .before .before .before .before .before .before .before .before .args .l .now) (c .before .before .next .result) _ _ (read w64 (c .before .x2 .ok) (c .before .x2 .ensures)) (read w64 (c .y2 .ok) (c .y2 .ensures)))
+
+across-requires-2 : tie.Need-across-requires-2 Inv-loop μ-loop
+across-requires-2 c κs = let b = c .before .before .before .before .before .before .before .before in crossed (b .args .l .now) (b .args .m) (b .args .s) (b .pre) _ _ _ (next-below _ _ (c .before .before .before .loop-test .taken)) (corner-next c)
+
+-- the edge's two ends
+at-from : (c : tie.After-across2 Inv-loop μ-loop) →
+    let g = c .before .before .before .before .before in
+    let b = g .before .before .before .before in
+    At (b .args .l .now) (b .args .m) (g .loop .i) (toZ w64 (g .loop .ax)) (toZ w64 (g .loop .ay)) (toZ w64 (g .loop .c))
+at-from c = c .before .before .before .before .before .loop .inv .here (c .before .before .before .before .loop-test .taken)
+
+at-to : (c : tie.After-across2 Inv-loop μ-loop) →
+    let g = c .before .before .before .before .before in
+    let b = g .before .before .before .before in
+    At (b .args .l .now) (b .args .m) (next (ring (b .args .l .now) .size) (g .loop .i)) (toZ w64 (ofZ w64 (c .before .before .x2 .result))) (toZ w64 (ofZ w64 (c .before .y2 .result))) (toZ w64 (ofZ w64 (c .across2 .result)))
+at-to c = record { corner = corner-next (c .before); side = read w64 (c .across2 .ok) (c .across2 .ensures) }
+
+touch-requires : tie.Need-touch-requires Inv-loop μ-loop
+touch-requires c κs =
+    let b = c .before .before .before .before .before .before .before .before .before in
+    (ready (b .args .l .now) (b .args .m) (b .args .s) (b .pre) _ _ _ _ _ _ _ _ (c .before .before .before .before .loop-test .taken) (next-below _ _ (c .before .before .before .before .loop-test .taken)) (at-from c) (at-to c), (at-from c .side, at-to c .side))
+
+earlier-requires : tie.Need-earlier-requires Inv-loop μ-loop
+earlier-requires c κs = tt
+
+-- i stays below the count
+turn : (c : tie.After-earlier Inv-loop μ-loop) → let b = c .before .before .before .before .before .before .before .before .before .before .before in c .before .before .before .before .before .before .before .loop .i < length (b .args .l .now) / 2
+turn c = c .before .before .before .before .before .before .loop-test .taken
+
+add-i : tie.Need-add-i Inv-loop μ-loop
+add-i c = let h = turn c in let g = c .before .before .before .before .before .before .before .before .before .before .before .good .0 in omega (arith, h, g)
+
+loop-less : tie.Need-loop-less Inv-loop μ-loop
+loop-less c = let h = turn c in omega (arith, h)
+
+loop-again : tie.Need-loop-again Inv-loop μ-loop
+loop-again c =
+    let d = c .before .before in
+    let g = d .before .before .before .before .before in
+    let b = g .before .before .before .before in
+    let h = turn c in
+    record {
+      bound = omega (arith, h);
+      first = step (b .args .l .now) (b .args .m) (b .args .s) (b .pre) (g .loop .i) (g .loop .best) (c .before .touch .result) (c .earlier .result) _ _ _ _ _ _ (g .loop .inv .first) (at-from d) (at-to d) (c .before .touch .ensures) (c .earlier .ensures);
+      here = λ k. rw (add-one (g .loop .i)) (rw (next-inner _ _ (rw (add-one (g .loop .i)) at k)) at (at-to d));
+    }
+
+returns : tie.Need-returns Inv-loop μ-loop
+returns c =
+    let v = c .before .loop .inv in
+    let e : c .before .loop .i ≡ length (c .before .before .before .before .before .args .l .now) / 2 = omega (arith, v .bound, c .loop-test .left) in
+    rw e at (v .first)
+
+pub touches-spec : {M : Type 1} → statement M
+touches-spec = tie.close (tie.spec Inv-loop μ-loop x-requires y-requires across-requires loop-holds next-requires x-requires-2 y-requires-2 across-requires-2 touch-requires earlier-requires add-i loop-less loop-again returns)

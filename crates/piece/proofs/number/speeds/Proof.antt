@@ -1,0 +1,15 @@
+-- `number::speeds` decides. Assumes nothing.
+use lib.IntN.{pos, negsuc}
+use mir.Facts.{toZ-ofZ}
+use Rattle.piece.proofs.Decide.{between-yes, between-no}
+use Rattle.piece.proofs.number.speeds.Statement.{statement}
+use Rattle.piece.proofs.number.speeds.Tie as tie
+
+returns : tie.Need-returns
+returns c = let e = toZ-ofZ (c .before .fits .v) in rw e (between-yes (negsuc 254) (pos 255) (c .before .args .v) (rw e at (c .if1 .taken)))
+
+returns-2 : tie.Need-returns-2
+returns-2 c = let e = toZ-ofZ (c .before .fits .v) in rw e (between-no (negsuc 254) (pos 255) (c .before .args .v) (rw e at (c .if1 .left)))
+
+pub speeds-spec : {M : Type 1} → statement M
+speeds-spec = tie.close (tie.spec returns returns-2)

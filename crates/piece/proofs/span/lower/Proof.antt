@@ -1,0 +1,33 @@
+-- `span::lower` is lower. Assumes nothing.
+use native.Mathlib.Omega.{arith}
+use borrow.Author.Needs.{needs}
+use mir.Facts.{toZ-ofZ}
+use mir.Syntax.{w64}
+use Rattle.whole.proofs.Range.{field}
+use Rattle.decide.specs.Span.{lower}
+use Rattle.piece.proofs.span.lower.Statement.{statement}
+use Rattle.piece.proofs.span.lower.Tie as tie
+
+mul-if1 : tie.Need-mul-if1
+mul-if1 c = search needs
+
+mul-if1-2 : tie.Need-mul-if1-2
+mul-if1-2 c = search needs
+
+returns : tie.Need-returns
+unfolding lower
+returns c =
+    let b = c .before .before .before .before .before .before in
+    let s = b .args .s in
+    rw (field w64 (s .«low_n») (omega arith), field w64 (s .«low_d») (omega arith), toZ-ofZ (b .fits .n), toZ-ofZ (b .fits .d))
+    (rw (rw (field w64 (s .«high_n») (omega arith), field w64 (s .«high_d») (omega arith), toZ-ofZ (b .fits .n), toZ-ofZ (b .fits .d), toZ-ofZ (b .pre .high), toZ-ofZ (b .pre .high′)) at (c .before .if1 .taken)))
+
+returns-2 : tie.Need-returns-2
+unfolding lower
+returns-2 c =
+    let b = c .before .before .before .before .before in
+    let s = b .args .s in
+    rw (rw (field w64 (s .«high_n») (omega arith), field w64 (s .«high_d») (omega arith), toZ-ofZ (b .fits .n), toZ-ofZ (b .fits .d), toZ-ofZ (b .pre .high), toZ-ofZ (b .pre .high′)) at (c .if1 .left))
+
+pub lower-spec : {M : Type 1} → statement M
+lower-spec = tie.close (tie.spec mul-if1 mul-if1-2 returns returns-2)

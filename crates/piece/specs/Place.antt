@@ -1,0 +1,33 @@
+-- Where a point lies, in the enums' words. Assumes nothing.
+use mathlib.Core.List.{List}
+use Prim.Native.Nat.{ℕ, _≤_}
+use lib.IntN.{ℤ, natAbs}
+use Rattle.rules.specs.Ring.{Pt, ring}
+use Rattle.rules.specs.Refusal.{Passes, Fault}
+use Rattle.rules.specs.Place.{Where, on, inside, outside, Place, placeChecks}
+use Rattle.refusal.specs.Said.{said}
+use Rattle.piece.specs.declared.Placed.{Placed}
+use Rattle.piece.specs.declared.Placed.the-variants as placed
+use Rattle.piece.specs.declared.spot.Spot.{Spot}
+use Rattle.piece.specs.declared.spot.Spot.the-variants as spot
+
+abbrev pub pt : ℤ → ℤ → Pt
+pt x y = record { x = x; y = y }
+
+-- a good footprint and one of three places, or the refusal
+abbrev pub Lies : Pt → List ℤ → Placed → Type 0
+Lies p l placed.On = Passes (placeChecks p l) × Place (ring l) p on
+Lies p l placed.Inside = Passes (placeChecks p l) × Place (ring l) p inside
+Lies p l placed.Outside = Passes (placeChecks p l) × Place (ring l) p outside
+Lies p l (placed.Refused r) = Fault (placeChecks p l) (said r)
+
+abbrev pub whereOf : Spot → Where
+whereOf spot.On = on
+whereOf spot.Inside = inside
+whereOf spot.Outside = outside
+
+-- a point over a denominator, as far as a run's can be
+pub record Near (d px py : ℤ) : Type 0 where
+  pub den : natAbs d ≤ 510
+  pub x : natAbs px ≤ 25067520
+  pub y : natAbs py ≤ 25067520

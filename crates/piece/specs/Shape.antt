@@ -1,0 +1,93 @@
+-- What the checks of a footprint compute, and what their functions ask and answer. Assumes nothing.
+use mathlib.Core.Path.{_≡_}
+use mathlib.Core.Bool.{Bool, not, cond, _&&_, _||_}
+use mathlib.Core.List.{List}
+use mathlib.Core.Logic.{_⊎_}
+use Prim.Native.Nat.{ℕ, _+_, _*_, _-_, _<_}
+use lib.Dec.{eqb, ltb}
+use lib.IntN.{ℤ, pos}
+use lib.ListN.{length, getD}
+use lib.Signed.{leZ, ltZ}
+use Rattle.rules.specs.Reach.{Reach, Corners}
+use Rattle.rules.specs.Ring.{Pt, Ring, ring, to, On}
+use Rattle.rules.specs.Refusal.{First}
+use Rattle.rules.specs.Good.{Same, FirstMeet, Meet, area}
+use Rattle.rules.proofs.Segment.{o}
+use Rattle.decide.specs.Touch.{least, most, sameSide}
+use Rattle.piece.specs.Decide.{Seeks}
+use Rattle.piece.specs.declared.good.Outline.{Outline}
+use Rattle.piece.specs.declared.good.Outline.the-variants.{Beyond, Drawn}
+use Rattle.piece.specs.declared.good.Meeting.{Meeting}
+use Rattle.piece.specs.declared.good.Meeting.the-variants.{Nowhere, At}
+
+-- the list holds n corners, as many as a footprint has
+pub record Holds (l : List ℤ) (n : ℕ) : Type 0 where
+  pub corners : Corners n
+  pub whole : length l ≡ 2 * n
+
+-- corner i stands in the list, within reach
+pub record Corner (l : List ℤ) (i : ℕ) : Type 0 where
+  pub below : i < ring l .size
+  pub x : Reach (ring l .at i .x)
+  pub y : Reach (ring l .at i .y)
+
+-- ---- tests
+abbrev pub equal : Pt → Pt → Bool
+equal a b = (leZ (a .x) (b .x) && leZ (b .x) (a .x)) && (leZ (a .y) (b .y) && leZ (b .y) (a .y))
+
+-- two ranges have no number in common
+abbrev pub parted : ℤ → ℤ → ℤ → ℤ → Bool
+parted a b c d = ltZ (most c d) (least a b) || ltZ (most a b) (least c d)
+
+-- the boxes of two edges have no point in common
+abbrev pub boxes : Pt → Pt → Pt → Pt → Bool
+boxes a b c d = parted (a .x) (b .x) (c .x) (d .x) || parted (a .y) (b .y) (c .y) (d .y)
+
+-- one edge lies strictly on one side of the other's line
+abbrev pub aside : Pt → Pt → Pt → Pt → Bool
+aside a b c d = sameSide (o a b c) (o a b d)
+
+-- two edges share a point
+abbrev pub shares : Pt → Pt → Pt → Pt → Bool
+shares a b c d = not (boxes a b c d || (aside a b c d || aside c d a b))
+
+-- of two edges a b and b c, an outer end lies on the other edge
+abbrev pub bends : Pt → Pt → Pt → Bool
+bends a b c = not (aside a b c c) && (not (boxes b c a a) || not (boxes a b c c))
+
+-- ---- one pass over the corners
+-- number j of the list is out of reach
+abbrev pub Stray : List ℤ → ℕ → Type 0
+Stray l j = Reach (getD l j (pos 0)) → ⊥
+
+-- the number before i around a ring of n
+unfoldable pub back : ℕ → ℕ → ℕ
+back n i = cond (eqb i 0) (n - 1) (i - 1)
+
+-- at corner i an outer end of its two edges lies on the other edge
+abbrev pub Bend : Ring → ℕ → Type 0
+Bend r i = On (r .at (back (r .size) i)) (r .at i) (to r i) ⊎ On (to r i) (r .at (back (r .size) i)) (r .at i)
+
+-- a first hit, once there is one, stays
+abbrev pub marked : ℕ → ℕ → ℕ → Bool → ℕ
+marked found n i hit = cond (ltb found n) found (cond hit i n)
+
+-- what the pass finds where every number is in reach
+pub record Drawing (l : List ℤ) (e f : ℕ) (twice : ℤ) : Type 0 where
+  pub reach : (j : ℕ) → j < length l → Reach (getD l j (pos 0))
+  pub same : Seeks (Same (ring l)) (ring l .size) e
+  pub fold : Seeks (Bend (ring l)) (ring l .size) f
+  pub area : twice ≡ area (ring l) (ring l .size)
+
+abbrev pub Outlined : List ℤ → Outline → Type 0
+Outlined l (Beyond j) = First (Stray l) (length l) j
+Outlined l (Drawn e f twice) = Drawing l e f twice
+
+-- ---- all pairs of edges
+-- the edges after edge i that are not its neighbours end before e: edge 0 has the last for a neighbour
+abbrev pub Ends : ℕ → ℕ → ℕ → Type 0
+Ends n i e = ((i ≡ 0) × (e + 1 ≡ n)) ⊎ ((0 < i) × (e ≡ n))
+
+abbrev pub Met : Ring → Meeting → Type 0
+Met r Nowhere = (i j : ℕ) → Meet r i j → ⊥
+Met r (At i j) = FirstMeet r i j

@@ -1,0 +1,68 @@
+// The numbers of runs and pieces, but for the corners, by rising offset.
+use crate::Band;
+use crate::Run;
+use crate::number::reaches;
+use crate::number::speeds;
+ghost use Rattle.rules.specs.Good.{runNumber, bandNumber};
+ghost use lib.Signed.{_≤ℤ_};
+ghost use Rattle.rules.specs.Reach.{Reach};
+ghost use Rattle.piece.specs.Decide.{Decides, Seeks};
+ghost use Rattle.piece.specs.Numbers.{runOf, pieceOf};
+ghost use mathlib.Core.List.{[]};
+
+// The first number of a run that is not taken, of seven.
+pub(crate) fn run_fault(run: Run) -> usize
+    ensures { λ r. ⌜ Seeks (λ j. runNumber (runOf run) j → ⊥) 7 r ⌝ }
+{
+    if !reaches(run.x) {
+        return 0;
+    }
+    if !reaches(run.y) {
+        return 1;
+    }
+    if !reaches(run.z) {
+        return 2;
+    }
+    if !speeds(run.vx) {
+        return 3;
+    }
+    if !speeds(run.vy) {
+        return 4;
+    }
+    if !speeds(run.vz) {
+        return 5;
+    }
+    if 4096 < run.ticks {
+        return 6;
+    }
+    7
+}
+
+// Whether the top is in reach and not below the bottom.
+fn tops(bottom: i32, top: i32) -> bool
+    ensures { λ r. ⌜ Decides (Reach top × (bottom ≤ℤ top)) r ⌝ }
+{
+    reaches(top) && bottom <= top
+}
+
+// The first of a piece's five numbers before its corners.
+pub(crate) fn band_fault(band: Band) -> usize
+    ensures { λ r. ⌜ Seeks (λ j. bandNumber (pieceOf band []) j → ⊥) 5 r ⌝ }
+{
+    if !reaches(band.bottom) {
+        return 0;
+    }
+    if !tops(band.bottom, band.top) {
+        return 1;
+    }
+    if !speeds(band.vx) {
+        return 2;
+    }
+    if !speeds(band.vy) {
+        return 3;
+    }
+    if !speeds(band.vz) {
+        return 4;
+    }
+    5
+}

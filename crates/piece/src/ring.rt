@@ -1,0 +1,117 @@
+// Corners of a list and edges between them, by their numbers.
+use crate::number::at;
+use crate::number::both;
+use crate::number::cross;
+use crate::number::either;
+use crate::number::least;
+use crate::number::less;
+use crate::number::level;
+use crate::number::most;
+use crate::number::same_side;
+use crate::number::side;
+ghost use mathlib.Core.Path.{_≡_};
+ghost use mathlib.Core.Bool.{not, _&&_, _||_};
+ghost use Prim.Native.Nat.{_*_, _+_, _≤_, _<_};
+ghost use lib.IntN.{pos, _-ℤ_, _*ℤ_};
+ghost use lib.ListN.{getD};
+ghost use Rattle.rules.specs.Ring.{ring, next};
+ghost use Rattle.rules.proofs.Segment.{o};
+ghost use Rattle.piece.specs.Shape.{Corner, equal, parted, boxes, aside, shares, bends};
+
+// The number after i around a ring of n.
+pub(crate) fn next(n: usize, i: usize) -> usize
+    requires { ⌜ i < n ⌝ }
+    ensures { λ r. ⌜ r ≡ next n i ⌝ }
+{
+    if i + 1 == n { 0 } else { i + 1 }
+}
+
+pub(crate) fn x(l: &[i32], i: usize) -> i64
+    requires { ⌜ i < ring (now l) .size ⌝ }
+    ensures { λ r. ⌜ r ≡ ring (now (l .entry)) .at i .x ⌝ }
+{
+    at(l, 2 * i)
+}
+
+pub(crate) fn y(l: &[i32], i: usize) -> i64
+    requires { ⌜ i < ring (now l) .size ⌝ }
+    ensures { λ r. ⌜ r ≡ ring (now (l .entry)) .at i .y ⌝ }
+{
+    at(l, 2 * i + 1)
+}
+
+// Twice the area of three corners.
+pub(crate) fn turn(l: &[i32], i: usize, j: usize, k: usize) -> i64
+    requires { ⌜ Corner (now l) i × (Corner (now l) j × Corner (now l) k) ⌝ }
+    ensures { λ r. ⌜ r ≡ o (ring (now (l .entry)) .at i) (ring (now (l .entry)) .at j) (ring (now (l .entry)) .at k) ⌝ }
+{
+    side(x(l, i), y(l, i), x(l, j), y(l, j), x(l, k), y(l, k))
+}
+
+// An edge's part in twice the area.
+pub(crate) fn wedge(l: &[i32], i: usize, k: usize) -> i64
+    requires { ⌜ Corner (now l) i × Corner (now l) k ⌝ }
+    ensures { λ r. ⌜ r ≡ ring (now (l .entry)) .at i .x *ℤ ring (now (l .entry)) .at k .y -ℤ ring (now (l .entry)) .at i .y *ℤ ring (now (l .entry)) .at k .x ⌝ }
+{
+    cross(x(l, i), y(l, i), x(l, k), y(l, k))
+}
+
+pub(crate) fn equal(l: &[i32], i: usize, k: usize) -> bool
+    requires { ⌜ Corner (now l) i × Corner (now l) k ⌝ }
+    ensures { λ r. ⌜ r ≡ equal (ring (now (l .entry)) .at i) (ring (now (l .entry)) .at k) ⌝ }
+{
+    both(level(x(l, i), x(l, k)), level(y(l, i), y(l, k)))
+}
+
+fn parted(a: i64, b: i64, c: i64, d: i64) -> bool
+    ensures { λ r. ⌜ r ≡ parted a b c d ⌝ }
+{
+    either(less(most(c, d), least(a, b)), less(most(a, b), least(c, d)))
+}
+
+// Whether the boxes of the edges i k and j m have no point in common.
+fn boxes(l: &[i32], i: usize, k: usize, j: usize, m: usize) -> bool
+    requires { ⌜ (i < ring (now l) .size) × ((k < ring (now l) .size) × ((j < ring (now l) .size) × (m < ring (now l) .size))) ⌝ }
+    ensures { λ r. ⌜ r ≡ boxes (ring (now (l .entry)) .at i) (ring (now (l .entry)) .at k) (ring (now (l .entry)) .at j) (ring (now (l .entry)) .at m) ⌝ }
+{
+    if parted(x(l, i), x(l, k), x(l, j), x(l, m)) {
+        return true;
+    }
+    parted(y(l, i), y(l, k), y(l, j), y(l, m))
+}
+
+// Whether the edge j m lies strictly on one side of the line of i k.
+fn aside(l: &[i32], i: usize, k: usize, j: usize, m: usize) -> bool
+    requires { ⌜ (Corner (now l) i × Corner (now l) k) × (Corner (now l) j × Corner (now l) m) ⌝ }
+    ensures { λ r. ⌜ r ≡ aside (ring (now (l .entry)) .at i) (ring (now (l .entry)) .at k) (ring (now (l .entry)) .at j) (ring (now (l .entry)) .at m) ⌝ }
+{
+    same_side(turn(l, i, k, j), turn(l, i, k, m))
+}
+
+// Whether the edges i k and j m share a point: most pairs are told apart by their boxes.
+pub(crate) fn shares(l: &[i32], i: usize, k: usize, j: usize, m: usize) -> bool
+    requires { ⌜ (Corner (now l) i × Corner (now l) k) × (Corner (now l) j × Corner (now l) m) ⌝ }
+    ensures { λ r. ⌜ r ≡ shares (ring (now (l .entry)) .at i) (ring (now (l .entry)) .at k) (ring (now (l .entry)) .at j) (ring (now (l .entry)) .at m) ⌝ }
+{
+    if boxes(l, i, k, j, m) {
+        return false;
+    }
+    if aside(l, i, k, j, m) {
+        return false;
+    }
+    !aside(l, j, m, i, k)
+}
+
+// Whether an outer end of the edges h i and i k lies on the other edge: three corners are seldom in line.
+pub(crate) fn bends(l: &[i32], h: usize, i: usize, k: usize) -> bool
+    requires { ⌜ Corner (now l) h × (Corner (now l) i × Corner (now l) k) ⌝ }
+    ensures { λ r. ⌜ r ≡ bends (ring (now (l .entry)) .at h) (ring (now (l .entry)) .at i) (ring (now (l .entry)) .at k) ⌝ }
+{
+    if aside(l, h, i, k, k) {
+        return false;
+    }
+    if boxes(l, i, k, h, h) {
+        return !boxes(l, h, i, k, k);
+    }
+    true
+}

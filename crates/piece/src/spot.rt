@@ -1,0 +1,123 @@
+// Where a point lies against a footprint.
+use crate::number::least;
+use crate::number::less;
+use crate::number::most;
+use crate::number::side;
+use crate::ring::next;
+use crate::ring::x;
+use crate::ring::y;
+ghost use mathlib.Core.Path.{_≡_};
+ghost use Prim.Native.Nat.{ℕ, _<_};
+ghost use lib.IntN.{_*ℤ_};
+ghost use mir.Syntax.{w64};
+ghost use mir.Val.{SFits};
+ghost use Rattle.rules.specs.Ring.{ring};
+ghost use Rattle.rules.proofs.Crossing.{tst, xor, crosses};
+ghost use Rattle.decide.specs.Touch.{ranged, isOn, place, over};
+ghost use Rattle.piece.specs.Steps.{SideSteps};
+ghost use Rattle.piece.specs.Shape.{Holds, Corner};
+ghost use Rattle.piece.specs.Place.{pt, Near, whereOf};
+
+pub(crate) enum Spot {
+    On,
+    Inside,
+    Outside,
+}
+
+// Whether z lies from a to b.
+fn ranged(a: i64, z: i64, b: i64) -> bool
+    ensures { λ r. ⌜ r ≡ ranged a z b ⌝ }
+{
+    a <= z && z <= b
+}
+
+// Whether p lies on the edge a b: its box is looked at before any product.
+fn is_on(ax: i64, ay: i64, bx: i64, by: i64, px: i64, py: i64) -> bool
+    requires { ⌜ SideSteps ax ay bx by px py ⌝ }
+    ensures { λ r. ⌜ r ≡ isOn (pt px py) (pt ax ay) (pt bx by) ⌝ }
+{
+    if !ranged(least(ax, bx), px, most(ax, bx)) {
+        return false;
+    }
+    if !ranged(least(ay, by), py, most(ay, by)) {
+        return false;
+    }
+    ranged(0, side(ax, ay, bx, by, px, py), 0)
+}
+
+// Whether the edge a b is counted for p: a product is needed only where exactly one end is not past p.
+fn is_counted(ax: i64, ay: i64, bx: i64, by: i64, px: i64, py: i64) -> bool
+    requires { ⌜ SideSteps ax ay bx by px py ⌝ }
+    ensures { λ r. ⌜ r ≡ crosses (pt ax ay) (pt bx by) (pt px py) ⌝ }
+{
+    if less(px, ax) {
+        if less(px, bx) {
+            return false;
+        }
+        return less(0, side(ax, ay, bx, by, px, py));
+    }
+    if less(px, bx) {
+        return less(side(ax, ay, bx, by, px, py), 0);
+    }
+    false
+}
+
+fn differ(s: bool, t: bool) -> bool
+    ensures { λ r. ⌜ r ≡ xor s t ⌝ }
+{
+    if s { !t } else { t }
+}
+
+fn scaled(d: i64, z: i64) -> i64
+    requires { ⌜ SFits w64 (d *ℤ z) ⌝ }
+    ensures { λ r. ⌜ r ≡ d *ℤ z ⌝ }
+{
+    d * z
+}
+
+// The same of the edge from corner i to corner k, over d.
+fn on_at(l: &[i32], i: usize, k: usize, px: i64, py: i64, d: i64) -> bool
+    requires { ⌜ Near d px py × (Corner (now l) i × Corner (now l) k) ⌝ }
+    ensures { λ r. ⌜ r ≡ isOn (pt px py) (over d (ring (now (l .entry))) .at i) (over d (ring (now (l .entry))) .at k) ⌝ }
+{
+    is_on(
+        scaled(d, x(l, i)),
+        scaled(d, y(l, i)),
+        scaled(d, x(l, k)),
+        scaled(d, y(l, k)),
+        px,
+        py,
+    )
+}
+
+fn counted_at(l: &[i32], i: usize, k: usize, px: i64, py: i64, d: i64) -> bool
+    requires { ⌜ Near d px py × (Corner (now l) i × Corner (now l) k) ⌝ }
+    ensures { λ r. ⌜ r ≡ crosses (over d (ring (now (l .entry))) .at i) (over d (ring (now (l .entry))) .at k) (pt px py) ⌝ }
+{
+    is_counted(
+        scaled(d, x(l, i)),
+        scaled(d, y(l, i)),
+        scaled(d, x(l, k)),
+        scaled(d, y(l, k)),
+        px,
+        py,
+    )
+}
+
+// The place of the point (px, py) over d, in one pass over the edges.
+pub(crate) fn place_at(l: &[i32], n: usize, px: i64, py: i64, d: i64) -> Spot
+    requires { ⌜ Near d px py × (Holds (now l) n × ((j : ℕ) → j < n → Corner (now l) j)) ⌝ }
+    ensures { λ r. ⌜ whereOf r ≡ place (over d (ring (now (l .entry)))) (pt px py) ⌝ }
+{
+    let mut odd = false;
+    let mut i = 0;
+    while i < n {
+        let k = next(n, i);
+        if on_at(l, i, k, px, py, d) {
+            return Spot::On;
+        }
+        odd = differ(odd, counted_at(l, i, k, px, py, d));
+        i += 1;
+    }
+    if odd { Spot::Inside } else { Spot::Outside }
+}
