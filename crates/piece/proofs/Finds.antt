@@ -9,17 +9,20 @@ use lib.ListN.{length}
 use lib.Signed.{_≤ℤ_, _<ℤ_}
 use Rattle.whole.proofs.Order.{ℕ-or, clash}
 use Rattle.rules.specs.Ring.{Pt, Ring, ring, next, from, to, On}
-use Rattle.rules.specs.Refusal.{First, Passes, Fault, refuse}
+use Rattle.rules.specs.Refusal.{First, Passes, Fault, each, refuse}
 use Rattle.rules.specs.Good.{Same, Folds, Meet, FirstMeet, area, bandNumber, Sized, sizedCheck, bandCheck, shapeChecks, footprintChecks, pieceChecks}
 use Rattle.rules.proofs.Share.{fold-ends, end-folds}
-use Rattle.rules.specs.Reach.{Piece}
+use Rattle.rules.specs.Reach.{Piece, Reach}
+use Rattle.rules.specs.Place.{pointNumber, placeChecks}
+use Rattle.rules.proofs.Reach.{between-stable}
 use Rattle.refusal.specs.declared.Checked.{Checked}
 use Rattle.refusal.specs.Said.{Finds}
 use Rattle.refusal.proofs.Finds.{finds-after}
 use Rattle.piece.specs.declared.Band.{Band}
 use Rattle.piece.specs.Decide.{Seeks}
 use Rattle.piece.specs.Numbers.{pieceOf}
-use Rattle.piece.specs.Shape.{Stray, back, Bend, Drawing}
+use Rattle.piece.specs.Shape.{Holds, Corner, Stray, back, Bend, Drawing}
+use Rattle.piece.proofs.Outline.{corner-at}
 use Rattle.piece.proofs.Back.{back-below, next-back, next-one}
 use Rattle.piece.proofs.Decide.{none-found, first-found, seeks-map}
 
@@ -93,3 +96,26 @@ footprint-finds l r h f = finds-after (sizedCheck l) (shapeChecks l) r h f
 pub piece-finds : (k : Piece) (r : Checked) → Sized (k .corners) → ((j : ℕ) → j < 5 → (bandNumber k j → ⊥) → ⊥) → Finds (shapeChecks (k .corners)) r → Finds (pieceChecks k) r
 unfolding pieceChecks sizedCheck bandCheck
 piece-finds k r h b f = finds-after (sizedCheck (k .corners)) (bandCheck k ∷ shapeChecks (k .corners)) r h (finds-after (bandCheck k) (shapeChecks (k .corners)) r b f)
+
+pub place-finds : (p : Pt) (l : List ℤ) (r : Checked) → ((j : ℕ) → j < 2 → (pointNumber p j → ⊥) → ⊥) → Finds (footprintChecks l) r → Finds (placeChecks p l) r
+unfolding placeChecks
+place-finds p l r h f = finds-after (each (λ j. pointNumber p j → ⊥) 2 (λ i. refuse 4 (2 + 2 * i) 0)) (footprintChecks l) r h f
+
+-- ---- what is known of a point and a footprint that pass
+pub record PlaceKnown (p : Pt) (l : List ℤ) : Type 0 where
+  pub x : Reach (p .x)
+  pub y : Reach (p .y)
+  pub holds : Holds l (ring l .size)
+  pub corners : (j : ℕ) → j < ring l .size → Corner l j
+
+pub place-known : (p : Pt) (l : List ℤ) → Passes (placeChecks p l) → PlaceKnown p l
+unfolding placeChecks footprintChecks sizedCheck shapeChecks
+place-known p l h = record {
+  x = between-stable _ _ _ (h .0 0 (omega arith));
+  y = between-stable _ _ _ (h .0 1 (omega arith));
+  holds = held;
+  corners = λ j b. corner-at l (ring l .size) (length l) j held (λ k a c. between-stable _ _ _ (h .1 .1 .0 k c)) (let e = held .whole in omega arith) b;
+}
+  where
+    held : Holds l (ring l .size)
+    held = let s = h .1 .0 in record { corners = s .corners; whole = let e = s .even in omega arith }

@@ -9,3 +9,4 @@ pub mod Outline
 pub mod Pairs
 pub mod Finds
 pub mod Scan
+pub mod Unique

@@ -14,7 +14,7 @@ ghost use lib.IntN.{pos};
 ghost use lib.ListN.{length, getD};
 ghost use Rattle.rules.specs.Reach.{Corners, Reach};
 ghost use Rattle.rules.specs.Ring.{ring, On};
-ghost use Rattle.rules.specs.Good.{Sized, Meet, shapeChecks};
+ghost use Rattle.rules.specs.Good.{Sized, Meet, shapeChecks, footprintChecks};
 ghost use Rattle.refusal.specs.Said.{Finds};
 ghost use Rattle.piece.specs.Decide.{Decides, Seeks};
 ghost use Rattle.piece.specs.Shape.{Holds, Corner, Stray, Bend, marked, Drawing, Outlined, Ends, Met, bends};
@@ -186,4 +186,14 @@ pub(crate) fn check_shape(l: &[i32]) -> Checked
         Outline::Beyond(j) => Checked::Refused(Refusal::Reach(12 + 2 * j)),
         Outline::Drawn(same, fold, area) => settle(l, n, same, fold, area),
     }
+}
+
+// The checks of a footprint alone.
+pub(crate) fn check_footprint(l: &[i32]) -> Checked
+    ensures { λ r. ⌜ Finds (footprintChecks (now (l .entry))) r ⌝ }
+{
+    if !sized(l) {
+        return Checked::Refused(Refusal::Corners);
+    }
+    check_shape(l)
 }

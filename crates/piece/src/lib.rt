@@ -2,9 +2,11 @@
 // Definitions: the crates `rules` and `refusal`; specs/Numbers.antt says which run and which piece plain numbers are.
 use refusal::Checked;
 use refusal::Refusal;
+use spot::Spot;
 ghost use Rattle.rules.specs.Good.{runChecks, pieceChecks};
 ghost use Rattle.refusal.specs.Said.{Finds};
 ghost use Rattle.piece.specs.Numbers.{runOf, pieceOf};
+ghost use Rattle.piece.specs.Place.{pt, Lies};
 ghost use Rattle.piece.specs.Tells.{Tells};
 
 mod good;
@@ -69,6 +71,20 @@ pub fn check_piece(band: Band, corners: &[i32]) -> Checked
         return Checked::Refused(Refusal::Reach(2 + 2 * k));
     }
     good::check_shape(corners)
+}
+
+// Where a point of the grid lies against a footprint.
+pub fn place(x: i32, y: i32, corners: &[i32]) -> Placed
+    ensures { λ r. ⌜ Lies (pt x y) (now (corners .entry)) r ⌝ }
+{
+    match spot::check_place(x, y, corners) {
+        Checked::Refused(r) => Placed::Refused(r),
+        Checked::Good => match spot::grid_spot(x, y, corners) {
+            Spot::On => Placed::On,
+            Spot::Inside => Placed::Inside,
+            Spot::Outside => Placed::Outside,
+        },
+    }
 }
 
 // The verdict of a run and a piece: the run is checked first, then the piece.

@@ -7,7 +7,9 @@ ghost use Rattle.rules.specs.Good.{runNumber, bandNumber};
 ghost use lib.Signed.{_≤ℤ_};
 ghost use Rattle.rules.specs.Reach.{Reach};
 ghost use Rattle.piece.specs.Decide.{Decides, Seeks};
+ghost use Rattle.rules.specs.Place.{pointNumber};
 ghost use Rattle.piece.specs.Numbers.{runOf, pieceOf};
+ghost use Rattle.piece.specs.Place.{pt};
 ghost use mathlib.Core.List.{[]};
 
 // The first number of a run that is not taken, of seven.
@@ -65,4 +67,17 @@ pub(crate) fn band_fault(band: Band) -> usize
         return 4;
     }
     5
+}
+
+// The first of a point's two numbers.
+pub(crate) fn point_fault(x: i32, y: i32) -> usize
+    ensures { λ r. ⌜ Seeks (λ j. pointNumber (pt x y) j → ⊥) 2 r ⌝ }
+{
+    if !reaches(x) {
+        return 0;
+    }
+    if !reaches(y) {
+        return 1;
+    }
+    2
 }

@@ -1,17 +1,24 @@
 // Where a point lies against a footprint.
+use crate::good::check_footprint;
 use crate::number::least;
 use crate::number::less;
 use crate::number::most;
 use crate::number::side;
+use crate::reach::point_fault;
 use crate::ring::next;
 use crate::ring::x;
 use crate::ring::y;
+use refusal::Checked;
+use refusal::Refusal;
 ghost use mathlib.Core.Path.{_≡_};
 ghost use Prim.Native.Nat.{ℕ, _<_};
 ghost use lib.IntN.{_*ℤ_};
 ghost use mir.Syntax.{w64};
 ghost use mir.Val.{SFits};
 ghost use Rattle.rules.specs.Ring.{ring};
+ghost use Rattle.rules.specs.Refusal.{Passes};
+ghost use Rattle.rules.specs.Place.{Place, placeChecks};
+ghost use Rattle.refusal.specs.Said.{Finds};
 ghost use Rattle.rules.proofs.Crossing.{tst, xor, crosses};
 ghost use Rattle.decide.specs.Touch.{ranged, isOn, place, over};
 ghost use Rattle.piece.specs.Steps.{SideSteps};
@@ -120,4 +127,23 @@ pub(crate) fn place_at(l: &[i32], n: usize, px: i64, py: i64, d: i64) -> Spot
         i += 1;
     }
     if odd { Spot::Inside } else { Spot::Outside }
+}
+
+// The checks before a place is answered: the point's numbers, then the footprint.
+pub(crate) fn check_place(x: i32, y: i32, l: &[i32]) -> Checked
+    ensures { λ r. ⌜ Finds (placeChecks (pt x y) (now (l .entry))) r ⌝ }
+{
+    let k = point_fault(x, y);
+    if k < 2 {
+        return Checked::Refused(Refusal::Reach(2 + 2 * k));
+    }
+    check_footprint(l)
+}
+
+// A point of the grid against a good footprint.
+pub(crate) fn grid_spot(x: i32, y: i32, l: &[i32]) -> Spot
+    requires { ⌜ Passes (placeChecks (pt x y) (now l)) ⌝ }
+    ensures { λ r. ⌜ Place (ring (now (l .entry))) (pt x y) (whereOf r) ⌝ }
+{
+    place_at(l, l.len() / 2, x as i64, y as i64, 1)
 }
