@@ -10,3 +10,4 @@ pub mod Pairs
 pub mod Finds
 pub mod Scan
 pub mod Unique
+pub mod OneCode

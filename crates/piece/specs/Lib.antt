@@ -6,3 +6,4 @@ pub mod Decide
 pub mod Steps
 pub mod Shape
 pub mod Place
+pub mod Code
