@@ -1,28 +1,25 @@
 -- Clipping keeps a span tame, and what tame numbers give fits. Assumes nothing.
-use mathlib.Core.Path.{_≡_, refl, sym, subst, _∙_}
+use mathlib.Core.Path.{_≡_, refl, _∙_}
 use mathlib.Core.Bool.{Bool, true, false, cond}
-use Prim.Native.Nat.{ℕ, zero, suc, _+_, _*_, _≤_, _<_}
+use Prim.Native.Nat.{ℕ, _≤_}
 use native.Mathlib.Omega.{arith}
 use lib.Dec.{T, leb→le}
-use lib.IntN.{ℤ, pos, negsuc, negℤ, natAbs, _+ℤ_, _-ℤ_, _*ℤ_}
+use lib.IntN.{ℤ, pos, negsuc, negℤ, natAbs, _-ℤ_, _*ℤ_}
 use lib.Signed.{_≤ℤ_, _<ℤ_, ltZ, quotZ, nonNeg}
 use mir.Syntax.{w64}
 use mir.Val.{SFits, toZ, ofZ}
 use mir.Facts.{toZ-ofZ}
 use Rattle.whole.proofs.Difference.{all, all2, all3, ring}
-use Rattle.whole.proofs.Order.{nn-mul, pos-mul, mul-mono, cancel, cancel-lt, le-trans, lt-le, nn-factor}
-use Rattle.whole.proofs.Flag.{lt-true, lt-false, le-true}
-use Rattle.whole.proofs.Polynomial.{vars2, vars3, poly, num-val, by-ring}
-use Rattle.whole.proofs.Range.{fits, abs-mul-le, abs-neg, quot}
+use Rattle.whole.proofs.Order.{nn-mul, mul-mono, cancel, cancel-lt, le-trans, lt-le, nn-factor}
+use Rattle.whole.proofs.Flag.{lt-true, le-true}
+use Rattle.whole.proofs.Polynomial.{vars3, poly, by-ring}
+use Rattle.whole.proofs.Range.{fits, abs-mul-le, abs-neg, Quot, quot}
 use Rattle.decide.specs.Span.{Span, raise, lower, none, clip, some, first}
-use Rattle.piece.specs.Moving.{Tame, Small, Bounds, Slope, Crossed}
+use Rattle.piece.specs.Moving.{Tame, Small, Bounds, Slope, Crossed, MarkSteps}
 
 pick : {A : Type 0} (P : A → Type 0) (t : Bool) (x y : A) → (t ≡ true → P x) → (t ≡ false → P y) → P (cond t x y)
 pick P true x y f g = f refl
 pick P false x y f g = g refl
-
-le-lt : (a b c : ℤ) → a ≤ℤ b → b <ℤ c → a <ℤ c
-le-lt = all3 _ λ a a′ b b′ c c′. simp ring (omega arith)
 
 lt-then : (a b c : ℤ) → a <ℤ b → b ≤ℤ c → a <ℤ c
 lt-then = all3 _ λ a a′ b b′ c c′. simp ring (omega arith)
@@ -98,6 +95,10 @@ crossed s n d h k = record {
   high′ = tame-fits (s .highN) d (h .highN) (k .slope);
 }
 
+-- a tame number, read back
+pub tame-back : (z : ℤ) → natAbs z ≤ 8589934592 → toZ w64 (ofZ w64 z) ≡ z
+tame-back z h = toZ-ofZ (fits w64 z (omega arith))
+
 zero-sub : (a : ℤ) → pos 0 -ℤ a ≡ negℤ a
 zero-sub = all _ λ a a′. simp ring (omega arith)
 
@@ -148,25 +149,24 @@ below : (B : ℕ) (z : ℤ) → T (nonNeg z) → z ≤ℤ pos B → natAbs z ≤
 below B (pos n) h k = leb→le n B (k .le)
 below B (negsuc n) h k = absurd h
 
--- the steps of the mark: 256 lowN / lowD
-pub record MarkSteps (s : Span) : Type 0 where
-  pub scaled : SFits w64 (pos 256 *ℤ s .lowN)
-  pub divisor : 0 < ofZ w64 (s .lowD)
-  pub sign : T (nonNeg (quotZ (pos 256 *ℤ s .lowN) (s .lowD)))
-  pub most : first s ≤ 1048576
+module _ (s : Span) (h : Small s) (e : some s ≡ true) where
+  from-0 : pos 0 ≤ℤ (pos 256 *ℤ s .lowN)
+  from-0 = nn-mul (pos 256) (s .lowN) (record { le = tt }) (h .begin)
 
-pub mark-steps : (s : Span) → Small s → some s ≡ true → MarkSteps s
-mark-steps s h e =
-    let p = nn-mul (pos 256) (s .lowN) (record { le = tt }) (h .begin) in
-    let q = quot (pos 256 *ℤ s .lowN) (s .lowD) p (h .low) in
-    let t = quot-sign (pos 256 *ℤ s .lowN) (s .lowD) p (h .low) in
-    record {
-      scaled = fits w64 _ (omega (arith, abs-mul-le (pos 256) (s .lowN) 256 8589934592 (omega arith) (h .lowN)));
-      divisor = q .nonzero w64;
-      sign = t;
-      most = below 1048576 (quotZ (pos 256 *ℤ s .lowN) (s .lowD)) t (cancel (quotZ (pos 256 *ℤ s .lowN) (s .lowD)) (pos 1048576) (s .lowD) (h .low) (le-trans _ _ _ (q .low) (scale-up (s .lowN) (s .lowD) (begin-by s h e))));
-    }
+  parts : Quot (pos 256 *ℤ s .lowN) (s .lowD)
+  parts = quot (pos 256 *ℤ s .lowN) (s .lowD) from-0 (h .low)
 
--- a mark, as the code reads it back
-pub mark-fits : (s : Span) → MarkSteps s → SFits w64 (quotZ (pos 256 *ℤ s .lowN) (s .lowD))
-mark-fits s m = fits w64 _ (omega (arith, m .most))
+  pub mark-sign : T (nonNeg (quotZ (pos 256 *ℤ s .lowN) (s .lowD)))
+  mark-sign = quot-sign (pos 256 *ℤ s .lowN) (s .lowD) from-0 (h .low)
+
+  pub mark-most : first s ≤ 1048576
+  mark-most =
+      below 1048576 (quotZ (pos 256 *ℤ s .lowN) (s .lowD)) mark-sign
+      (cancel (quotZ (pos 256 *ℤ s .lowN) (s .lowD)) (pos 1048576) (s .lowD) (h .low) (le-trans _ _ _ (parts .low) (scale-up (s .lowN) (s .lowD) (begin-by s h e))))
+
+  pub mark-steps : MarkSteps (s .lowN) (s .lowD)
+  mark-steps = record {
+    scaled = fits w64 _ (omega (arith, abs-mul-le (pos 256) (s .lowN) 256 8589934592 (omega arith) (h .lowN)));
+    divisor = parts .nonzero w64;
+    all = fits w64 _ (omega (arith, mark-most));
+  }

@@ -1,5 +1,5 @@
 -- What a motion and an edge within reach give is small. Assumes nothing.
-use mathlib.Core.Path.{_≡_}
+use mathlib.Core.Path.{_≡_, refl, sym}
 use mathlib.Core.Bool.{Bool, true, false, cond}
 use Prim.Native.Nat.{ℕ, _+_, _*_, _/_, _%_, _≤_}
 use native.Mathlib.Omega.{arith}
@@ -10,16 +10,17 @@ use lib.Signed.{leZ}
 use mir.Syntax.{w32, w64}
 use mir.Val.{SFits, toZ, ofZ}
 use mir.Facts.{toZ-ofZ}
+use Rattle.whole.proofs.Flag.{false-true}
 use Rattle.whole.proofs.Range.{fits, abs-by, abs-add, abs-sub, abs-mul-le, abs-neg}
 use Rattle.rules.specs.Reach.{Speed, Run, Piece}
 use Rattle.rules.specs.Ring.{Pt, Ring}
-use Rattle.rules.specs.Place.{Where}
+use Rattle.rules.specs.Place.{Where, on, inside, outside}
 use Rattle.rules.proofs.Reach.{RunKnown, PieceKnown}
 use Rattle.rules.proofs.Segment.{o}
 use Rattle.decide.specs.Span.{Span, ticks, some, first}
 use Rattle.decide.specs.Touch.{NONE, least, most, swing, across, sameSide, onLine, within, onEdge, touch, touches, bandSpan, startPoint, over, pointOf, motion, place, fromPlace, meets}
 use Rattle.piece.specs.Moving.{Tame, Small, Bounds, Slope}
-use Rattle.piece.specs.Touch.{Close, Slow, Ready, Flat, Standing, Level, AlongSteps, AcrossSteps, SwingSteps}
+use Rattle.piece.specs.Touch.{Close, Slow, Ready, Flat, Standing, Level, GapSteps, contact, AlongSteps, AcrossSteps, SwingSteps}
 use Rattle.piece.specs.Steps.{SideSteps}
 use Rattle.piece.proofs.Steps.{reach-abs, Wide}
 use Rattle.piece.proofs.Steps as steps
@@ -185,6 +186,9 @@ swift z h = omega arith
 pub back32 : (z : ℤ) → natAbs z ≤ 32768 → toZ w32 (ofZ w32 z) ≡ z
 back32 z h = toZ-ofZ (fits w32 z (omega arith))
 
+pub gap-steps : (a b : ℤ) → natAbs a ≤ 16384 → natAbs b ≤ 16384 → GapSteps a b
+gap-steps a b h k = record { first = fit a (omega (arith, h)); second = fit b (omega (arith, k)); all = fit (a -ℤ b) (omega (arith, diff a b h k)) }
+
 pub minus : (a b c d : ℤ) → c ≡ a → d ≡ b → c -ℤ d ≡ a -ℤ b
 minus a b c d e f = rw (e, f)
 
@@ -229,14 +233,28 @@ module _ (d p n w : ℤ) (h : natAbs d ≤ 510) (i : natAbs p ≤ 16384) (j : na
   }
 
 -- ---- the first mark within a span, by its tests
+from-here : (v : Where) (here later : ℕ) → contact v ≡ true → fromPlace v here later ≡ here
+from-here on here later e = refl
+from-here inside here later e = refl
+from-here outside here later e = absurd (false-true e)
+
+from-later : (v : Where) (here later : ℕ) → contact v ≡ false → fromPlace v here later ≡ later
+from-later on here later e = absurd (false-true (sym e))
+from-later inside here later e = absurd (false-true (sym e))
+from-later outside here later e = refl
+
 module _ (r : Ring) (p w : Pt) (s : Span) where
   pub meets-none : some s ≡ false → NONE ≡ meets r p w s
   unfolding meets
   meets-none e = rw e
 
-  pub meets-at : (v : Where) → some s ≡ true → v ≡ place (over (s .lowD) r) (startPoint p w s) → fromPlace v (first s) (touches r p w s (r .size)) ≡ meets r p w s
+  pub meets-here : some s ≡ true → contact (place (over (s .lowD) r) (startPoint p w s)) ≡ true → first s ≡ meets r p w s
   unfolding meets
-  meets-at v e h = rw (e, h)
+  meets-here e f = rw (e, from-here (place (over (s .lowD) r) (startPoint p w s)) (first s) (touches r p w s (r .size)) f)
+
+  pub meets-later : some s ≡ true → contact (place (over (s .lowD) r) (startPoint p w s)) ≡ false → touches r p w s (r .size) ≡ meets r p w s
+  unfolding meets
+  meets-later e f = rw (e, from-later (place (over (s .lowD) r) (startPoint p w s)) (first s) (touches r p w s (r .size)) f)
 
 -- ---- numbers that are taken
 speed-abs : (z : ℤ) → Speed z → natAbs z ≤ 255

@@ -1,9 +1,9 @@
 -- The span that four numbers say, and the sizes that the code computes with. Assumes nothing.
-use Prim.Native.Nat.{ℕ, _≤_}
+use Prim.Native.Nat.{ℕ, _≤_, _<_}
 use lib.IntN.{ℤ, pos, natAbs, _*ℤ_}
-use lib.Signed.{_≤ℤ_, _<ℤ_}
+use lib.Signed.{_≤ℤ_, _<ℤ_, quotZ}
 use mir.Syntax.{w64}
-use mir.Val.{SFits}
+use mir.Val.{SFits, ofZ}
 use Rattle.decide.specs.Span as decide
 use Rattle.piece.specs.declared.span.Span.{Span}
 
@@ -39,3 +39,9 @@ pub record Crossed (s : decide.Span) (n d : ℤ) : Type 0 where
   pub low′ : SFits w64 (n *ℤ s .lowD)
   pub high : SFits w64 (n *ℤ s .highD)
   pub high′ : SFits w64 (s .highN *ℤ d)
+
+-- each step of 256 n / d fits, and the divisor is not 0
+pub record MarkSteps (n d : ℤ) : Type 0 where
+  pub scaled : SFits w64 (pos 256 *ℤ n)
+  pub divisor : 0 < ofZ w64 d
+  pub all : SFits w64 (quotZ (pos 256 *ℤ n) d)

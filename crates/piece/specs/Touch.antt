@@ -1,4 +1,5 @@
 -- The points, motions and edges that plain numbers say, and the sizes that the code computes with. Assumes nothing.
+use mathlib.Core.Bool.{Bool, true, false}
 use mathlib.Core.List.{List}
 use Prim.Native.Nat.{ℕ, _≤_, _<_}
 use lib.IntN.{ℤ, natAbs, _+ℤ_, _-ℤ_, _*ℤ_}
@@ -6,6 +7,7 @@ use mir.Syntax.{w64}
 use mir.Val.{SFits}
 use Rattle.rules.specs.Reach.{Run, Piece}
 use Rattle.rules.specs.Ring.{Pt, ring}
+use Rattle.rules.specs.Place.{Where, on, inside, outside}
 use Rattle.decide.specs.Span.{Span}
 use Rattle.decide.specs.Touch.{swing, across}
 use Rattle.piece.specs.declared.motion.Motion.{Motion}
@@ -88,3 +90,15 @@ pub record AlongSteps (d p n w : ℤ) : Type 0 where
   pub first : SFits w64 (d *ℤ p)
   pub second : SFits w64 (n *ℤ w)
   pub all : SFits w64 (d *ℤ p +ℤ n *ℤ w)
+
+-- each step of a − b fits
+pub record GapSteps (a b : ℤ) : Type 0 where
+  pub first : SFits w64 a
+  pub second : SFits w64 b
+  pub all : SFits w64 (a -ℤ b)
+
+-- on or inside
+abbrev pub contact : Where → Bool
+contact on = true
+contact inside = true
+contact outside = false

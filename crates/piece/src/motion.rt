@@ -26,7 +26,7 @@ ghost use Rattle.decide.specs.Touch.{NONE, swing, across, onLine, within, onEdg
 ghost use Rattle.piece.specs.Numbers.{runOf, pieceOf};
 ghost use Rattle.piece.specs.Place.{whereOf};
 ghost use Rattle.piece.specs.Moving.{spanOf, Tame};
-ghost use Rattle.piece.specs.Touch.{startOf, speedOf, fromOf, toOf, AcrossSteps, SwingSteps, Ready, Flat, Standing, Level, AlongSteps};
+ghost use Rattle.piece.specs.Touch.{startOf, speedOf, fromOf, toOf, AcrossSteps, SwingSteps, Ready, Flat, Standing, Level, AlongSteps, GapSteps, contact};
 
 // Clear, as a verdict is coded.
 pub(crate) const NONE: u32 = 4294967295;
@@ -166,6 +166,21 @@ fn motion_of(run: Run, band: Band) -> Motion
     }
 }
 
+// How far a height is over a band's bottom, and under its top.
+fn over(z: i32, bottom: i32) -> i64
+    requires { ⌜ GapSteps z bottom ⌝ }
+    ensures { λ r. ⌜ r ≡ z -ℤ bottom ⌝ }
+{
+    z as i64 - bottom as i64
+}
+
+fn under(z: i32, top: i32) -> i64
+    requires { ⌜ GapSteps top z ⌝ }
+    ensures { λ r. ⌜ r ≡ top -ℤ z ⌝ }
+{
+    top as i64 - z as i64
+}
+
 // The moments of a run within a piece's band.
 fn band_span(run: Run, band: Band) -> Span
     requires { ⌜ Level (runOf run) (pieceOf band []) ⌝ }
@@ -178,8 +193,8 @@ fn band_span(run: Run, band: Band) -> Span
         high_n: run.ticks as i64,
         high_d: 1,
     };
-    let t = clip(s, gap(run.z, band.bottom), w);
-    clip(t, gap(band.top, run.z), -w)
+    let t = clip(s, over(run.z, band.bottom), w);
+    clip(t, under(run.z, band.top), -w)
 }
 
 // A coordinate at the moment n/d, over d.
@@ -200,6 +215,17 @@ fn begins(l: &[i32], m: Motion, s: Span) -> Spot
     place_at(l, l.len() / 2, px, py, s.low_d)
 }
 
+// On or inside is a contact.
+fn meeting(spot: Spot) -> bool
+    ensures { λ r. ⌜ r ≡ contact (whereOf spot) ⌝ }
+{
+    match spot {
+        Spot::On => true,
+        Spot::Inside => true,
+        Spot::Outside => false,
+    }
+}
+
 // The first mark of a point that runs against a standing footprint within a span.
 fn meets(l: &[i32], m: Motion, s: Span) -> u32
     requires { ⌜ Standing (now l) (startOf m) (speedOf m) (spanOf s) × Tame 32768 510 (spanOf s) ⌝ }
@@ -208,11 +234,10 @@ fn meets(l: &[i32], m: Motion, s: Span) -> u32
     if !some(s) {
         return NONE;
     }
-    let spot = begins(l, m, s);
-    match spot {
-        Spot::On => first(s),
-        Spot::Inside => first(s),
-        Spot::Outside => touches(l, m, s),
+    if meeting(begins(l, m, s)) {
+        first(s)
+    } else {
+        touches(l, m, s)
     }
 }
 

@@ -2,8 +2,10 @@
 // Definitions: the crate `decide`, Span; specs/Moving.antt says which span four numbers are, and of which size.
 ghost use mathlib.Core.Path.{_≡_};
 ghost use mathlib.Core.Bool.{true};
+ghost use lib.IntN.{pos, _*ℤ_};
+ghost use lib.Signed.{quotZ};
 ghost use Rattle.decide.specs.Span.{raise, lower, none, clip, some, first};
-ghost use Rattle.piece.specs.Moving.{spanOf, Crossed, Small, Slope};
+ghost use Rattle.piece.specs.Moving.{spanOf, Crossed, Small, Slope, MarkSteps};
 
 // From low_n/low_d to high_n/high_d, both counted.
 pub(crate) struct Span {
@@ -84,10 +86,18 @@ pub(crate) fn some(s: Span) -> bool
     s.low_n * s.high_d <= s.high_n * s.low_d
 }
 
-// The mark of the first moment: its 256th part of a tick, rounded down.
+// The mark of the moment n/d: 256 parts to a tick, rounded down.
+fn mark(n: i64, d: i64) -> i64
+    requires { ⌜ MarkSteps n d ⌝ }
+    ensures { λ r. ⌜ r ≡ quotZ (pos 256 *ℤ n) d ⌝ }
+{
+    256 * n / d
+}
+
+// The mark of the first moment.
 pub(crate) fn first(s: Span) -> u32
     requires { ⌜ Small (spanOf s) × (some (spanOf s) ≡ true) ⌝ }
     ensures { λ r. ⌜ r ≡ first (spanOf s) ⌝ }
 {
-    (256 * s.low_n / s.low_d) as u32
+    mark(s.low_n, s.low_d) as u32
 }

@@ -6,7 +6,7 @@ use Rattle.decide.specs.Span.{Span}
 use Rattle.decide.specs.Touch.{pointOf, motion, bandSpan, meets, code}
 use Rattle.piece.specs.Numbers.{runOf, pieceOf}
 use Rattle.piece.specs.Moving.{spanOf, Tame}
-use Rattle.piece.specs.Touch.{startOf, speedOf, Standing}
+use Rattle.piece.specs.Touch.{speedOf, Standing}
 use Rattle.piece.proofs.Touch.{level, standing, tame-band}
 use Rattle.piece.proofs.motion.code.Statement.{statement}
 use Rattle.piece.proofs.motion.code.Tie as tie

@@ -1,10 +1,9 @@
 -- `motion::touch` is touch. Assumes nothing.
 use mathlib.Core.Path.{_≡_, sym, subst, ap, _∙_}
-use mathlib.Core.Bool.{Bool}
 use borrow.Author.Needs.{needs}
 use mir.Facts.{toZ-ofZ}
 use Rattle.decide.specs.Span as decide
-use Rattle.decide.specs.Touch.{across, sameSide, onEdge}
+use Rattle.decide.specs.Touch.{across, sameSide}
 use Rattle.piece.specs.Moving.{spanOf, Small}
 use Rattle.piece.specs.Touch.{startOf, speedOf, fromOf, toOf}
 use Rattle.piece.proofs.Touch.{small-edge, touch-aside, touch-some, touch-none}

@@ -1,6 +1,5 @@
 -- `span::lower` is lower. Assumes nothing.
 use native.Mathlib.Omega.{arith}
-use borrow.Author.Needs.{needs}
 use mir.Facts.{toZ-ofZ}
 use mir.Syntax.{w64}
 use Rattle.whole.proofs.Range.{field}
@@ -9,10 +8,10 @@ use Rattle.piece.proofs.span.lower.Statement.{statement}
 use Rattle.piece.proofs.span.lower.Tie as tie
 
 mul-if1 : tie.Need-mul-if1
-mul-if1 c = search needs
+mul-if1 c = let b = c .before .before in rw (field w64 (b .args .s .«high_d») (omega arith), toZ-ofZ (b .fits .n)) (b .pre .high)
 
 mul-if1-2 : tie.Need-mul-if1-2
-mul-if1-2 c = search needs
+mul-if1-2 c = let b = c .before .before .before .before in rw (field w64 (b .args .s .«high_n») (omega arith), toZ-ofZ (b .fits .d)) (b .pre .high′)
 
 returns : tie.Need-returns
 unfolding lower

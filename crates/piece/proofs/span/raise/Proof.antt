@@ -1,21 +1,17 @@
 -- `span::raise` is raise. Assumes nothing.
 use native.Mathlib.Omega.{arith}
-use borrow.Author.Needs.{needs}
 use mir.Facts.{toZ-ofZ}
 use mir.Syntax.{w64}
 use Rattle.whole.proofs.Range.{field}
 use Rattle.decide.specs.Span.{raise}
-use Rattle.piece.specs.Moving.{spanOf}
 use Rattle.piece.proofs.span.raise.Statement.{statement}
 use Rattle.piece.proofs.span.raise.Tie as tie
-use Rattle.piece.proofs.span.raise.Reads as reads
-use Rattle.piece.proofs.span.raise.Lts as lts
 
 mul-if1 : tie.Need-mul-if1
-mul-if1 c = search needs
+mul-if1 c = let b = c .before .before in rw (field w64 (b .args .s .«low_n») (omega arith), toZ-ofZ (b .fits .d)) (b .pre .low)
 
 mul-if1-2 : tie.Need-mul-if1-2
-mul-if1-2 c = search needs
+mul-if1-2 c = let b = c .before .before .before .before in rw (field w64 (b .args .s .«low_d») (omega arith), toZ-ofZ (b .fits .n)) (b .pre .low′)
 
 returns : tie.Need-returns
 unfolding raise
