@@ -1,0 +1,157 @@
+-- Laws of blocks as lists of bytes: zeros after the first bytes, the two sums, and when a list is the block of its first bytes. Assumes nothing.
+use mathlib.Core.Path.{_≡_, refl, sym, ap, _∙_}
+use mathlib.Core.Logic.{_⊎_, inl, inr, ⊎-elim}
+use mathlib.Core.List.{List, [], _∷_, _++_}
+use Prim.Native.Nat.{ℕ, zero, suc, _+_, _*_, _-_, _%_, _≤_, _<_}
+use native.Mathlib.Omega.{arith}
+use borrow.Author.Count.{below-more}
+use lib.ListN.{length, getD, set, replicate, length-append, length-set, length-replicate, List·getD-append}
+use lib.Seq.{getD-append-add, getD-set-same, getD-set-other, ext-getD}
+use Rattle.whole.proofs.Order.{ℕ-or}
+use Rattle.block.specs.Layout.{byte, sum, plainSum, weighedSum, filled, blockOf}
+use Rattle.block.specs.Reading.{Sealed}
+
+-- ---- zeros after the first bytes
+zeros-at : (n i : ℕ) → byte (replicate n 0) i ≡ 0
+zeros-at zero i = refl
+zeros-at (suc n) zero = refl
+zeros-at (suc n) (suc i) = zeros-at n i
+
+padded : (l : List ℕ) (n i : ℕ) → getD (l ++ replicate n 0) i 0 ≡ getD l i 0
+padded [] n i = zeros-at n i
+padded (x ∷ l) n zero = refl
+padded (x ∷ l) n (suc i) = padded l n i
+
+pub filled-at : (n : ℕ) (l : List ℕ) (i : ℕ) → byte (filled n l) i ≡ byte l i
+unfolding filled
+filled-at n l i = padded l (n - length l) i
+
+pub filled-length : (n : ℕ) (l : List ℕ) → length l ≤ n → length (filled n l) ≡ n
+unfolding filled
+filled-length n l h = omega (arith, length-append l (replicate (n - length l) 0), length-replicate {A = ℕ} (n - length l) 0)
+
+-- one more element is stored: those up to it are right
+pub stored : {A : Type 0} (d : A) (l m : List A) (i : ℕ) (a : A) → i < length l → ((k : ℕ) → k < i → getD l k d ≡ getD m k d) → a ≡ getD m i d → (k : ℕ) → k < i + 1 → getD (set l i a) k d ≡ getD m k d
+stored {A} d l m i a h before e =
+    below-more (λ k. getD (set l i a) k d ≡ getD m k d) i
+    (λ k g. getD-set-other l i k a d (λ q. ne k i g q) ∙ before k g) (getD-set-same l i a d h ∙ e)
+  where
+    ne : (k i : ℕ) → k < i → k ≡ i → ⊥
+    ne k i g q = omega arith
+
+-- ---- the sums
+pub sum-same : (f g : ℕ → ℕ) (n : ℕ) → ((i : ℕ) → i < n → f i ≡ g i) → sum f n ≡ sum g n
+unfolding sum
+sum-same f g zero h = refl
+sum-same f g (suc n) h = omega (arith, sum-same f g n (λ i l. h i (omega arith)), h n (omega arith))
+
+pub sum-more : (f : ℕ → ℕ) (n : ℕ) → sum f (n + 1) ≡ sum f n + f n
+unfolding sum
+sum-more f n = let e : n + 1 ≡ suc n = omega arith in rw e
+
+pub plain-below : (l : List ℕ) → plainSum l < 255
+unfolding plainSum
+plain-below l = omega arith
+
+pub weighed-below : (l : List ℕ) → weighedSum l < 255
+unfolding weighedSum
+weighed-below l = omega arith
+
+-- the first 510 bytes are the same
+abbrev pub Alike : List ℕ → List ℕ → Type 0
+Alike l m = (i : ℕ) → i < 510 → byte l i ≡ byte m i
+
+pub plain-same : (l m : List ℕ) → Alike l m → plainSum l ≡ plainSum m
+unfolding plainSum
+plain-same l m h = ap (λ n. n % 255) (sum-same (byte l) (byte m) 510 h)
+
+pub weighed-same : (l m : List ℕ) → Alike l m → weighedSum l ≡ weighedSum m
+unfolding weighedSum
+weighed-same l m h =
+    ap (λ n. n % 255) (sum-same (λ i. (510 - i) * byte l i) (λ i. (510 - i) * byte m i) 510 (λ i k. ap (λ n. (510 - i) * n) (h i k)))
+
+-- ---- a block
+module _ (front : List ℕ) (few : length front ≤ 510) where
+  long : length (filled 510 front) ≡ 510
+  long = filled-length 510 front few
+
+  pub block-length : length (blockOf front) ≡ 512
+  unfolding blockOf
+  block-length = omega (arith, long, length-append (filled 510 front) (plainSum (filled 510 front) ∷ weighedSum (filled 510 front) ∷ []))
+
+  pub block-at : (i : ℕ) → i < 510 → byte (blockOf front) i ≡ byte front i
+  unfolding blockOf
+  block-at i h =
+      List·getD-append (filled 510 front) (plainSum (filled 510 front) ∷ weighedSum (filled 510 front) ∷ []) 0 i (rw long h) ∙ filled-at 510 front i
+
+  alike-filled : Alike (filled 510 front) (blockOf front)
+  alike-filled i h = filled-at 510 front i ∙ sym (block-at i h)
+
+  past : (n : ℕ) → byte (blockOf front) (510 + n) ≡ byte (plainSum (filled 510 front) ∷ weighedSum (filled 510 front) ∷ []) n
+  unfolding blockOf
+  past n =
+      let e = getD-append-add (filled 510 front) (plainSum (filled 510 front) ∷ weighedSum (filled 510 front) ∷ []) n 0 in
+      rw long at e
+
+  pub block-sealed : Sealed (blockOf front)
+  block-sealed = record {
+    first = past 0 ∙ plain-same (filled 510 front) (blockOf front) alike-filled;
+    second = past 1 ∙ weighed-same (filled 510 front) (blockOf front) alike-filled;
+  }
+
+-- a list of 512 bytes with a right check is the block of what its first bytes are
+last-two : (i : ℕ) → 510 ≤ i → i < 512 → (i ≡ 510) ⊎ (i ≡ 511)
+last-two i h k = ⊎-elim (λ (l : i ≤ 510). inl (omega arith)) (λ (l : 510 < i). inr (omega arith)) (ℕ-or i 510)
+
+pub sealed-is : (l m : List ℕ) → length l ≡ 512 → length m ≡ 512 → Sealed l → Sealed m → Alike l m → l ≡ m
+sealed-is l m n o s t h =
+    ext-getD 0 l m (n ∙ sym o)
+    (λ i k. ⊎-elim
+    (λ (g : 510 ≤ i). ⊎-elim
+    (λ (e : i ≡ 510). rw e (s .first ∙ plain-same l m h ∙ sym (t .first)))
+    (λ (e : i ≡ 511). rw e (s .second ∙ weighed-same l m h ∙ sym (t .second)))
+    (last-two i g (omega arith)))
+    (λ (g : i < 510). h i g)
+    (ℕ-or 510 i))
+
+pub block-is : (l front : List ℕ) → length front ≤ 510 → length l ≡ 512 → Sealed l → Alike l front → l ≡ blockOf front
+block-is l front few n s h =
+    sealed-is l (blockOf front) n (block-length front few) s (block-sealed front few) (λ i k. h i k ∙ sym (block-at front few i k))
+
+pub block-same : (f g : List ℕ) → length f ≤ 510 → length g ≤ 510 → Alike f g → blockOf f ≡ blockOf g
+block-same f g k m h = block-is (blockOf f) g m (block-length f k) (block-sealed f k) (λ i l. block-at f k i l ∙ h i l)
+
+-- ---- the check, put in its place
+module _ (m : List ℕ) (long : length m ≡ 512) where
+  sealing : List ℕ
+  sealing = set (set m 510 (plainSum m)) 511 (weighedSum m)
+
+  apart : (i j : ℕ) → i < j → i ≡ j → ⊥
+  apart i j h e = omega arith
+
+  sealing-length : length sealing ≡ 512
+  unfolding sealing
+  sealing-length = length-set (set m 510 (plainSum m)) 511 (weighedSum m) ∙ (length-set m 510 (plainSum m) ∙ long)
+
+  sealing-at : (i : ℕ) → i < 510 → byte sealing i ≡ byte m i
+  unfolding sealing
+  sealing-at i h =
+      getD-set-other (set m 510 (plainSum m)) 511 i (weighedSum m) 0 (apart i 511 (omega arith))
+      ∙ getD-set-other m 510 i (plainSum m) 0 (apart i 510 h)
+
+  sealing-sealed : Sealed sealing
+  unfolding sealing
+  sealing-sealed =
+      let n = set m 510 (plainSum m) in let same : Alike m sealing = λ i h. sym (sealing-at i h) in
+      record {
+        first =
+            getD-set-other n 511 510 (weighedSum m) 0 (apart 510 511 (omega arith))
+            ∙ (getD-set-same m 510 (plainSum m) 0 (omega arith) ∙ plain-same m sealing same);
+        second =
+            getD-set-same n 511 (weighedSum m) 0 (rw (length-set m 510 (plainSum m)) (omega arith))
+            ∙ weighed-same m sealing same;
+      }
+
+  pub sealing-is : (front : List ℕ) → length front ≤ 510 → Alike m front → set (set m 510 (plainSum m)) 511 (weighedSum m) ≡ blockOf front
+  unfolding sealing
+  sealing-is front few h = block-is sealing front few sealing-length sealing-sealed (λ i k. sealing-at i k ∙ h i k)

@@ -1,0 +1,12 @@
+pub mod Bodies
+pub mod Bytes
+pub mod Face
+pub mod Found
+pub mod Headers
+pub mod Laid
+pub mod PieceLaws
+pub mod RoundTrip
+pub mod RunLaws
+pub mod Sharp
+pub mod Unique
+pub mod Words

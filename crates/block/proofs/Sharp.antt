@@ -1,0 +1,58 @@
+-- The checks of blocks are sharp: each list of bytes has at most one first fault. Assumes nothing.
+use mathlib.Core.List.{List, [], _∷_, _++_}
+use Prim.Native.Nat.{ℕ}
+use Rattle.rules.specs.Reach.{Run, Piece}
+use Rattle.rules.specs.Good.{runChecks, pieceChecks}
+use Rattle.rules.proofs.Checks.{AllSharp, sharp-demand, sharp-each, sharp-append}
+use Rattle.rules.proofs.Good.{sharp-run, sharp-piece}
+use Rattle.block.specs.Reading.{blockChecks, headerBytes, headerChecks, runBytes, pieceBytes, RunIn, PieceIn, inside, runBlockChecks, pieceBlockChecks, headerAsked, bytesAsked, runAsked, pieceAsked}
+use Rattle.block.proofs.Found.{sharp-inside}
+use Rattle.block.proofs.RunLaws.{run-one}
+use Rattle.block.proofs.PieceLaws.{piece-one}
+
+-- ---- reading
+pub sharp-block : (l : List ℕ) → AllSharp (blockChecks l)
+unfolding blockChecks
+sharp-block l = (sharp-demand _ _, (sharp-demand _ _, tt))
+
+pub sharp-header : (l : List ℕ) → AllSharp (headerChecks l)
+unfolding headerChecks headerBytes
+sharp-header l =
+    sharp-append (blockChecks l) (headerBytes l) (sharp-block l) (sharp-each _ _ _, (sharp-demand _ _, (sharp-demand _ _, (sharp-each _ _ _, tt))))
+
+sharp-run-bytes : (l : List ℕ) → AllSharp (blockChecks l ++ runBytes l)
+unfolding runBytes
+sharp-run-bytes l = sharp-append (blockChecks l) (runBytes l) (sharp-block l) (sharp-demand _ _, (sharp-demand _ _, (sharp-each _ _ _, tt)))
+
+pub sharp-run-block : (l : List ℕ) → AllSharp (runBlockChecks l)
+unfolding runBlockChecks
+sharp-run-block l =
+    sharp-append (blockChecks l ++ runBytes l) (inside (RunIn l) runChecks ∷ []) (sharp-run-bytes l)
+    (sharp-inside (RunIn l) runChecks (run-one l) sharp-run, tt)
+
+sharp-piece-bytes : (l : List ℕ) → AllSharp (blockChecks l ++ pieceBytes l)
+unfolding pieceBytes
+sharp-piece-bytes l = sharp-append (blockChecks l) (pieceBytes l) (sharp-block l) (sharp-demand _ _, (sharp-demand _ _, (sharp-each _ _ _, tt)))
+
+pub sharp-piece-block : (l : List ℕ) → AllSharp (pieceBlockChecks l)
+unfolding pieceBlockChecks
+sharp-piece-block l =
+    sharp-append (blockChecks l ++ pieceBytes l) (inside (PieceIn l) pieceChecks ∷ []) (sharp-piece-bytes l)
+    (sharp-inside (PieceIn l) pieceChecks (piece-one l) sharp-piece, tt)
+
+-- ---- writing
+pub sharp-bytes-asked : (l front : List ℕ) → AllSharp (bytesAsked l front)
+unfolding bytesAsked
+sharp-bytes-asked l front = (sharp-demand _ _, (sharp-demand _ _, tt))
+
+pub sharp-header-asked : (l : List ℕ) (n : ℕ) → AllSharp (headerAsked l n)
+unfolding headerAsked
+sharp-header-asked l n = (sharp-demand _ _, (sharp-demand _ _, tt))
+
+pub sharp-run-asked : (l : List ℕ) (r : Run) → AllSharp (runAsked l r)
+unfolding runAsked
+sharp-run-asked l r = (sharp-demand _ _, sharp-run r)
+
+pub sharp-piece-asked : (l : List ℕ) (k : Piece) → AllSharp (pieceAsked l k)
+unfolding pieceAsked
+sharp-piece-asked l k = (sharp-demand _ _, sharp-piece k)

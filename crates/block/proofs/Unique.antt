@@ -1,0 +1,113 @@
+-- Two outcomes that both meet a public contract, answer and later bytes, are equal. Assumes nothing.
+use mathlib.Core.Path.{_≡_, refl, sym, ap, subst, _∙_}
+use mathlib.Core.List.{List, [], _∷_, _++_}
+use Prim.Native.Nat.{ℕ}
+use Rattle.rules.specs.Reach.{Piece}
+use Rattle.rules.specs.Refusal.{Check, Passes}
+use Rattle.rules.specs.Good.{runChecks, pieceChecks}
+use Rattle.rules.proofs.Checks.{AllSharp, never-both}
+use Rattle.refusal.specs.Said.{said, Finds}
+use Rattle.refusal.proofs.Unique.{finds-one}
+use Rattle.refusal.specs.declared.Checked.{Checked}
+use Rattle.refusal.specs.declared.Checked.the-variants.{Good, Refused}
+use Rattle.piece.specs.declared.Run.{Run}
+use Rattle.piece.specs.declared.Band.{Band}
+use Rattle.piece.specs.Numbers.{runOf, pieceOf}
+use Rattle.block.specs.declared.HeaderRead.{HeaderRead}
+use Rattle.block.specs.declared.HeaderRead.the-variants.{Count, NoHeader}
+use Rattle.block.specs.declared.RunRead.{RunRead}
+use Rattle.block.specs.declared.RunRead.the-variants.{Found, NoRun}
+use Rattle.block.specs.declared.PieceRead.{PieceRead}
+use Rattle.block.specs.Layout.{headerBlock, runBlock, pieceBlock, blockOf}
+use Rattle.block.specs.Reading.{blockChecks, headerChecks, runBlockChecks, pieceBlockChecks, headerAsked, bytesAsked, runAsked, pieceAsked, HeaderSays, RunIn, RunSays, PieceIn, Holds, PieceGood, PieceFound, PieceSays, Writes}
+use Rattle.block.proofs.Found.{refused-one}
+use Rattle.block.proofs.Headers.{header-passes, header-one}
+use Rattle.block.proofs.RunLaws as runs
+use Rattle.block.proofs.PieceLaws as pieces
+use Rattle.block.proofs.Sharp.{sharp-block, sharp-header, sharp-run-block, sharp-piece-block, sharp-bytes-asked, sharp-header-asked, sharp-run-asked, sharp-piece-asked}
+
+-- ---- check_block
+pub check-block-one : (l : List ℕ) (r s : Checked) → Finds (blockChecks l) r → Finds (blockChecks l) s → r ≡ s
+check-block-one l r s f g = finds-one (blockChecks l) (sharp-block l) r s f g
+
+-- ---- writers
+writes-one : (cs : List Check) → AllSharp cs → (made before a b : List ℕ) (r s : Checked) → Writes cs made before a r → Writes cs made before b s → (r ≡ s) × (a ≡ b)
+writes-one cs h made before a b Good Good f g = (refl, f .1 ∙ sym (g .1))
+writes-one cs h made before a b Good (Refused y) f g = absurd (never-both cs h (said y) (f .0) (g .0))
+writes-one cs h made before a b (Refused x) Good f g = absurd (never-both cs h (said x) (g .0) (f .0))
+writes-one cs h made before a b (Refused x) (Refused y) f g = (ap Refused (refused-one cs h x y (f .0) (g .0)), f .1 ∙ sym (g .1))
+
+pub write-bytes-one : (front before a b : List ℕ) (r s : Checked) → Writes (bytesAsked before front) (blockOf front) before a r → Writes (bytesAsked before front) (blockOf front) before b s → (r ≡ s) × (a ≡ b)
+write-bytes-one front before a b r s = writes-one (bytesAsked before front) (sharp-bytes-asked before front) (blockOf front) before a b r s
+
+pub write-header-one : (n : ℕ) (before a b : List ℕ) (r s : Checked) → Writes (headerAsked before n) (headerBlock n) before a r → Writes (headerAsked before n) (headerBlock n) before b s → (r ≡ s) × (a ≡ b)
+write-header-one n before a b r s = writes-one (headerAsked before n) (sharp-header-asked before n) (headerBlock n) before a b r s
+
+pub write-run-one : (run : Run) (before a b : List ℕ) (r s : Checked) → Writes (runAsked before (runOf run)) (runBlock (runOf run)) before a r → Writes (runAsked before (runOf run)) (runBlock (runOf run)) before b s → (r ≡ s) × (a ≡ b)
+write-run-one run before a b r s = writes-one (runAsked before (runOf run)) (sharp-run-asked before (runOf run)) (runBlock (runOf run)) before a b r s
+
+pub write-piece-one : (k : Piece) (before a b : List ℕ) (r s : Checked) → Writes (pieceAsked before k) (pieceBlock k) before a r → Writes (pieceAsked before k) (pieceBlock k) before b s → (r ≡ s) × (a ≡ b)
+write-piece-one k before a b r s = writes-one (pieceAsked before k) (sharp-piece-asked before k) (pieceBlock k) before a b r s
+
+-- ---- read_header
+pub read-header-one : (l : List ℕ) (r s : HeaderRead) → HeaderSays l r → HeaderSays l s → r ≡ s
+read-header-one l (Count m) (Count n) f g = ap Count (header-one m n (sym (f .1) ∙ g .1))
+read-header-one l (Count m) (NoHeader y) f g =
+    absurd (never-both (headerChecks l) (sharp-header l) (said y) (subst (λ l. Passes (headerChecks l)) (sym (f .1)) (header-passes m (f .0))) g)
+read-header-one l (NoHeader x) (Count n) f g =
+    absurd (never-both (headerChecks l) (sharp-header l) (said x) (subst (λ l. Passes (headerChecks l)) (sym (g .1)) (header-passes n (g .0))) f)
+read-header-one l (NoHeader x) (NoHeader y) f g = ap NoHeader (refused-one (headerChecks l) (sharp-header l) x y f g)
+
+-- ---- read_run
+-- plain numbers are told by the run that they say
+run-of-one : (r s : Run) → runOf r ≡ runOf s → r ≡ s
+run-of-one r s e = λ i. record {
+  x = e i .start .x;
+  y = e i .start .y;
+  z = e i .start .z;
+  vx = e i .speed .x;
+  vy = e i .speed .y;
+  vz = e i .speed .z;
+  ticks = e i .ticks;
+}
+
+found-in : (l : List ℕ) (r : Run) → RunSays l (Found r) → RunIn l (runOf r)
+found-in l r f = subst (λ l. RunIn l (runOf r)) (sym (f .1)) (runs.good-in (runOf r) (f .0))
+
+found-passes : (l : List ℕ) (r : Run) → RunSays l (Found r) → Passes (runBlockChecks l)
+found-passes l r f = subst (λ l. Passes (runBlockChecks l)) (sym (f .1)) (runs.run-passes (runOf r) (f .0))
+
+pub read-run-one : (l : List ℕ) (r s : RunRead) → RunSays l r → RunSays l s → r ≡ s
+read-run-one l (Found r) (Found s) f g = ap Found (run-of-one r s (runs.run-one l (runOf r) (runOf s) (found-in l r f) (found-in l s g)))
+read-run-one l (Found r) (NoRun y) f g = absurd (never-both (runBlockChecks l) (sharp-run-block l) (said y) (found-passes l r f) g)
+read-run-one l (NoRun x) (Found s) f g = absurd (never-both (runBlockChecks l) (sharp-run-block l) (said x) (found-passes l s g) f)
+read-run-one l (NoRun x) (NoRun y) f g = ap NoRun (refused-one (runBlockChecks l) (sharp-run-block l) x y f g)
+
+-- ---- read_piece
+holds-one : (r s : PieceRead) (k : Piece) → r .found ≡ s .found → Holds r k → Holds s k → r ≡ s
+holds-one r s k e h g =
+    let q = h .numbers ∙ sym (g .numbers) in
+    λ i. record {
+      found = e i;
+      band = record { bottom = q i .bottom; top = q i .top; vx = q i .speed .x; vy = q i .speed .y; vz = q i .speed .z };
+      corners = (h .corners ∙ sym (g .corners)) i;
+      count = (h .count ∙ sym (g .count)) i;
+    }
+
+good-in : (l : List ℕ) (r : PieceRead) (f : PieceGood l r) → PieceIn l (f .piece)
+good-in l r f = subst (λ l. PieceIn l (f .piece)) (sym (f .same)) (pieces.good-in (f .piece) (f .good))
+
+good-passes : (l : List ℕ) (r : PieceRead) → PieceGood l r → Passes (pieceBlockChecks l)
+good-passes l r f = subst (λ l. Passes (pieceBlockChecks l)) (sym (f .same)) (pieces.piece-passes (f .piece) (f .good))
+
+found-one : (l : List ℕ) (r s : PieceRead) (x y : Checked) → r .found ≡ x → s .found ≡ y → PieceFound l r x → PieceFound l s y → r ≡ s
+found-one l r s Good Good d e f g =
+    let q = pieces.piece-one l (f .piece) (g .piece) (good-in l r f) (good-in l s g) in
+    holds-one r s (g .piece) (d ∙ sym e) (subst (Holds r) q (f .holds)) (g .holds)
+found-one l r s Good (Refused y) d e f g = absurd (never-both (pieceBlockChecks l) (sharp-piece-block l) (said y) (good-passes l r f) (g .fault))
+found-one l r s (Refused x) Good d e f g = absurd (never-both (pieceBlockChecks l) (sharp-piece-block l) (said x) (good-passes l s g) (f .fault))
+found-one l r s (Refused x) (Refused y) d e f g =
+    holds-one r s _ (d ∙ ap Refused (refused-one (pieceBlockChecks l) (sharp-piece-block l) x y (f .fault) (g .fault)) ∙ sym e) (f .holds) (g .holds)
+
+pub read-piece-one : (l : List ℕ) (r s : PieceRead) → PieceSays l r → PieceSays l s → r ≡ s
+read-piece-one l r s f g = found-one l r s (r .found) (s .found) refl refl f g

@@ -1,0 +1,60 @@
+-- `block::pieces::check_piece_bytes` meets its contract. Assumes nothing.
+use mathlib.Core.Path.{refl}
+use mathlib.Core.Logic.{inl, inr}
+use native.Mathlib.Omega.{arith}
+use denote.Ref.{now}
+use Rattle.block.specs.Reading.{pieceBytes}
+use Rattle.block.proofs.Face.{piece-last}
+use borrow.Author.Needs.{needs}
+use Rattle.block.proofs.pieces.check_piece_bytes.Statement.{statement}
+use Rattle.block.proofs.pieces.check_piece_bytes.Tie as tie
+
+shared-slice-read-kind : tie.Need-shared-slice-read-kind
+shared-slice-read-kind c = search needs
+
+returns : tie.Need-returns
+unfolding pieceBytes
+returns c = inl (c .if1 .taken, refl)
+
+shared-slice-read-count : tie.Need-shared-slice-read-count
+shared-slice-read-count c = search needs
+
+cast-count : tie.Need-cast-count
+cast-count c = omega (arith, c .shared-slice-known3 .given 1)
+
+returns-2 : tie.Need-returns-2
+unfolding pieceBytes
+returns-2 c = inr (c .before .before .if1 .left, inl (λ h. let l = h .least in omega arith, refl))
+
+returns-3 : tie.Need-returns-3
+unfolding pieceBytes
+returns-3 c = inr (c .before .before .before .if1 .left, inl (λ h. let l = h .most in omega arith, refl))
+
+mul-check-unnamed : tie.Need-mul-check-unnamed
+mul-check-unnamed c = search needs
+
+add-check-unnamed : tie.Need-add-check-unnamed
+add-check-unnamed c = search needs
+
+check-unnamed-requires : tie.Need-check-unnamed-requires
+check-unnamed-requires c κs = search needs
+
+returns-4 : tie.Need-returns-4
+returns-4 c =
+    piece-last (now (c .before .before .before .before .before .before .before .args .block)) (c .check-unnamed .result) (c .before .before .before .before .if1 .left) (record { least = c .before .before .if2 .left; most = c .before .if3 .left })
+    (c .check-unnamed .ensures)
+
+pub check-piece-bytes-spec : {M : Type 1} → statement M
+check-piece-bytes-spec =
+    tie.close
+    (tie.spec
+    shared-slice-read-kind
+    returns
+    shared-slice-read-count
+    cast-count
+    returns-2
+    returns-3
+    mul-check-unnamed
+    add-check-unnamed
+    check-unnamed-requires
+    returns-4)

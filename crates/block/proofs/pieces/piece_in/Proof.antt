@@ -1,0 +1,95 @@
+-- `block::pieces::piece_in` meets its contract: the block holds the piece that was read. Assumes nothing.
+use mathlib.Core.Path.{sym}
+use mathlib.Core.Logic.{inl}
+use mathlib.Core.List.{[], _∷_, _++_}
+use Prim.Native.Nat.{_*_}
+use native.Mathlib.Omega.{arith}
+use lib.ListN.{take}
+use lib.Seq.{length-take-le}
+use denote.Ref.{now}
+use Rattle.rules.specs.Good.{pieceChecks}
+use Rattle.rules.proofs.Checks.{fault-right}
+use Rattle.refusal.specs.declared.Checked.the-variants.{Good}
+use Rattle.piece.specs.Numbers.{pieceOf}
+use Rattle.block.specs.Layout.{byte}
+use Rattle.block.specs.Reading.{blockChecks, pieceBytes, pieceBlockChecks, PieceIn, inside}
+use Rattle.block.proofs.Found.{found-good, found-bad}
+use Rattle.block.proofs.PieceLaws.{block-long, count-most, piece-in, piece-holds, says-refused}
+use borrow.Author.Needs.{needs}
+use Rattle.block.proofs.pieces.piece_in.Statement.{statement}
+use Rattle.block.proofs.pieces.piece_in.Tie as tie
+
+shared-slice-read-count : tie.Need-shared-slice-read-count
+shared-slice-read-count c = omega (arith, block-long (now (c .before .before .args .block)) (c .before .before .pre))
+
+cast-count : tie.Need-cast-count
+cast-count c = omega (arith, c .shared-slice-known2 .given 1)
+
+mul-n : tie.Need-mul-n
+mul-n c = omega (arith, c .shared-slice-known2 .given 1)
+
+band-at-requires : tie.Need-band-at-requires
+band-at-requires c κs = block-long (now (c .before .before .args .block)) (c .before .before .pre)
+
+corners-at-requires : tie.Need-corners-at-requires
+corners-at-requires c κs = let l = now (c .before .before .before .args .block) in (omega (arith, count-most l (c .before .before .before .pre)), block-long l (c .before .before .before .pre))
+
+array-share-prefix-corners : tie.Need-array-share-prefix-corners
+array-share-prefix-corners c = omega (arith, count-most (now (c .before .before .before .before .args .block)) (c .before .before .before .before .pre), c .corners-at .ensures .all)
+
+slice-aggregate-check-piece : tie.Need-slice-aggregate-check-piece
+slice-aggregate-check-piece c = sym (length-take-le _ _ (array-share-prefix-corners (c .before)))
+
+check-piece-requires : tie.Need-check-piece-requires
+check-piece-requires c κs = search needs
+
+enum-known-x : tie.Need-enum-known-x
+enum-known-x c = search needs
+
+refused-requires : tie.Need-refused-requires
+refused-requires c κs = search needs
+
+enum-told : tie.Need-enum-told
+enum-told c = search needs
+
+returns : tie.Need-returns
+unfolding pieceBlockChecks
+returns c =
+    let l = now (c .before .before .before .before .before .before .before .before .before .before .args .block) in let b = c .before .before .before .before .before .before .before .band-at .result in let a = c .before .before .before .before .before .before .corners-at .result in let p = c .before .before .before .before .before .before .before .before .before .before .pre in
+    let k = pieceOf b (take (2 * byte l 1) a) in
+    says-refused l (c .refused .result) _ (c .refused .ensures .0)
+    (fault-right (blockChecks l ++ pieceBytes l) (inside (PieceIn l) pieceChecks ∷ []) _ p
+    (inl (
+      k,
+      piece-in l b a (c .before .before .before .before .before .before .before .before .before .shared-slice-known .given) p (c .before .before .before .before .before .before .before .band-at .ensures) (c .before .before .before .before .before .before .corners-at .ensures),
+      found-bad (pieceChecks k) _ _ (c .before .before .before .before .check-piece .ensures) (c .before .before .x .given .1),
+    ))) (c .refused .ensures .1)
+
+returns-2 : tie.Need-returns-2
+returns-2 c =
+    let l = now (c .before .before .before .before .before .before .before .before .args .block) in let b = c .before .before .before .before .before .band-at .result in let a = c .before .before .before .before .corners-at .result in let p = c .before .before .before .before .before .before .before .before .pre in
+    let k = pieceOf b (take (2 * byte l 1) a) in let g = c .before .before .before .before .before .before .before .shared-slice-known .given in
+    record {
+      piece = k;
+      good = found-good (pieceChecks k) _ (c .before .before .check-piece .ensures) (c .enum-told .given .1);
+      same = piece-in l b a g p (c .before .before .before .before .before .band-at .ensures) (c .before .before .before .before .corners-at .ensures) .same;
+      holds = piece-holds l b a g p (c .before .before .before .before .before .band-at .ensures) (c .before .before .before .before .corners-at .ensures) Good;
+    }
+
+pub piece-in-spec : {M : Type 1} → statement M
+piece-in-spec =
+    tie.close
+    (tie.spec
+    shared-slice-read-count
+    cast-count
+    mul-n
+    band-at-requires
+    corners-at-requires
+    array-share-prefix-corners
+    slice-aggregate-check-piece
+    check-piece-requires
+    enum-known-x
+    refused-requires
+    enum-told
+    returns
+    returns-2)

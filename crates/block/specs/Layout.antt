@@ -1,0 +1,69 @@
+-- "Blocks of a room": the bytes of each kind of block, made from its numbers. Assumes nothing.
+use mathlib.Core.List.{List, [], _∷_, _++_}
+use Prim.Native.Nat.{ℕ, zero, suc, _+_, _*_, _-_, _/_, _%_}
+use lib.IntN.{ℤ, pos, negsuc}
+use lib.ListN.{length, getD, replicate}
+use Rattle.rules.specs.Reach.{Run, Piece}
+use Rattle.rules.specs.Ring.{ring}
+
+-- byte i, and zero past the end
+abbrev pub byte : List ℕ → ℕ → ℕ
+byte l i = getD l i 0
+
+-- f 0 + f 1 + .. + f (n - 1)
+unfoldable pub sum : (ℕ → ℕ) → ℕ → ℕ
+sum f zero = 0
+sum f (suc n) = sum f n + f n
+
+-- the check: the sum of bytes 0 to 509 modulo 255, and the sum of (510 - i) times byte i modulo 255
+unfoldable pub plainSum : List ℕ → ℕ
+plainSum l = sum (λ i. byte l i) 510 % 255
+
+unfoldable pub weighedSum : List ℕ → ℕ
+weighedSum l = sum (λ i. (510 - i) * byte l i) 510 % 255
+
+-- zeros after l, up to n bytes
+unfoldable pub filled : ℕ → List ℕ → List ℕ
+filled n l = l ++ replicate (n - length l) 0
+
+-- a block of 512 bytes from its first ones: zeros up to 510, then the check
+unfoldable pub blockOf : List ℕ → List ℕ
+blockOf l = filled 510 l ++ (plainSum (filled 510 l) ∷ weighedSum (filled 510 l) ∷ [])
+
+-- two's complement of two bytes
+abbrev pub word : ℤ → ℕ
+word (pos n) = n
+word (negsuc n) = 65535 - n
+
+-- numbers of two bytes, low byte first
+abbrev pub words : List ℤ → List ℕ
+words [] = []
+words (z ∷ zs) = word z % 256 ∷ word z / 256 ∷ words zs
+
+-- 52 4F 4F 4D
+abbrev pub name : List ℕ
+name = 0x52 ∷ 0x4F ∷ 0x4F ∷ 0x4D ∷ []
+
+-- the header of a room of n pieces, edition 1
+unfoldable pub headerBlock : ℕ → List ℕ
+headerBlock n = blockOf (name ++ (1 ∷ n ∷ []))
+
+-- position, velocity and T: bytes 2 to 15 of a run block
+abbrev pub runNumbers : Run → List ℤ
+runNumbers r = r .start .x ∷ r .start .y ∷ r .start .z ∷ r .speed .x ∷ r .speed .y ∷ r .speed .z ∷ pos (r .ticks) ∷ []
+
+unfoldable pub runBody : Run → List ℕ
+runBody r = words (runNumbers r)
+
+unfoldable pub runBlock : Run → List ℕ
+runBlock r = blockOf (2 ∷ 0 ∷ runBody r)
+
+-- corner count, bottom, top, velocity and corners, with zeros for the corners that it lacks: bytes 1 to 267 of a piece block
+abbrev pub pieceNumbers : Piece → List ℤ
+pieceNumbers k = k .bottom ∷ k .top ∷ k .speed .x ∷ k .speed .y ∷ k .speed .z ∷ k .corners
+
+unfoldable pub pieceBody : Piece → List ℕ
+pieceBody k = filled 267 (ring (k .corners) .size ∷ words (pieceNumbers k))
+
+unfoldable pub pieceBlock : Piece → List ℕ
+pieceBlock k = blockOf (1 ∷ pieceBody k)

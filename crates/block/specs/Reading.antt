@@ -1,0 +1,155 @@
+-- What reading and writing a block finds: the order of refusals, and what is answered. Assumes nothing.
+use mathlib.Core.Path.{_≡_}
+use mathlib.Core.List.{List, [], _∷_, _++_}
+use Prim.Native.Nat.{ℕ, _+_, _*_, _-_, _≤_, _<_}
+use lib.IntN.{ℤ, pos, negsuc}
+use lib.ListN.{length, getD, replicate}
+use Rattle.rules.specs.Reach.{Between, Corners, Pieces, Run, Piece}
+use Rattle.rules.specs.Ring.{ring}
+use Rattle.rules.specs.Refusal.{Refusal, refuse, Check, Passes, Fault, demand, each}
+use Rattle.rules.specs.Good.{Sized, runChecks, pieceChecks}
+use Rattle.refusal.specs.Said.{said}
+use Rattle.refusal.specs.declared.Checked.{Checked}
+use Rattle.refusal.specs.declared.Checked.the-variants.{Good, Refused}
+use Rattle.piece.specs.Numbers.{runOf, pieceOf}
+use Rattle.block.specs.declared.HeaderRead.{HeaderRead}
+use Rattle.block.specs.declared.HeaderRead.the-variants.{Count, NoHeader}
+use Rattle.block.specs.declared.RunRead.{RunRead}
+use Rattle.block.specs.declared.RunRead.the-variants.{Found, NoRun}
+use Rattle.block.specs.declared.PieceRead.{PieceRead}
+use Rattle.block.specs.Layout.{byte, plainSum, weighedSum, word, name, headerBlock, runNumbers, runBlock, pieceNumbers, pieceBlock}
+
+-- ---- the checks of a block's own bytes
+-- a block has 512 bytes
+abbrev pub lengthCheck : List ℕ → Check
+lengthCheck l = demand (length l ≡ 512) (refuse 1 0 0)
+
+-- bytes 510 and 511 are the check
+pub record Sealed (l : List ℕ) : Type 0 where
+  pub first : byte l 510 ≡ plainSum l
+  pub second : byte l 511 ≡ weighedSum l
+
+abbrev pub sealCheck : List ℕ → Check
+sealCheck l = demand (Sealed l) (refuse 2 0 0)
+
+-- byte i is n
+abbrev pub byteCheck : List ℕ → ℕ → ℕ → Check
+byteCheck l i n = demand (byte l i ≡ n) (refuse 3 i 0)
+
+-- the bytes from here to 509 have no name, and are zero
+abbrev pub unnamedCheck : List ℕ → ℕ → Check
+unnamedCheck l from = each (λ j. byte l (from + j) ≡ 0 → ⊥) (510 - from) (λ i. refuse 3 (from + i) 0)
+
+-- any block: length, then check
+unfoldable pub blockChecks : List ℕ → List Check
+blockChecks l = lengthCheck l ∷ sealCheck l ∷ []
+
+-- a header, by rising offset: the name, the edition, the piece count, the unnamed bytes
+unfoldable pub headerBytes : List ℕ → List Check
+headerBytes l =
+    each (λ j. byte l j ≡ getD name j 0 → ⊥) 4 (λ i. refuse 3 i 0)
+    ∷ byteCheck l 4 1
+    ∷ demand (Pieces (byte l 5)) (refuse 3 5 0)
+    ∷ unnamedCheck l 6
+    ∷ []
+
+unfoldable pub headerChecks : List ℕ → List Check
+headerChecks l = blockChecks l ++ headerBytes l
+
+-- a run, by rising offset: the kind, the unnamed bytes
+unfoldable pub runBytes : List ℕ → List Check
+runBytes l = byteCheck l 0 2 ∷ byteCheck l 1 0 ∷ unnamedCheck l 16 ∷ []
+
+-- a piece: the kind, the corner count, the unnamed bytes
+unfoldable pub pieceBytes : List ℕ → List Check
+pieceBytes l =
+    byteCheck l 0 1
+    ∷ demand (Corners (byte l 1)) (refuse 5 0 0)
+    ∷ unnamedCheck l (12 + 4 * byte l 1)
+    ∷ []
+
+-- ---- the numbers that a block holds
+-- what two bytes hold, signed
+abbrev pub Half : ℤ → Type 0
+Half z = Between (negsuc 32767) (pos 32767) z
+
+-- l is the block of the run r, whose numbers two bytes hold
+pub record RunIn (l : List ℕ) (r : Run) : Type 0 where
+  pub signed : (j : ℕ) → j < 6 → Half (getD (runNumbers r) j (pos 0))
+  pub ticks : r .ticks < 65536
+  pub same : l ≡ runBlock r
+
+-- l is the block of the piece k, whose numbers two bytes hold and whose corner count is good
+pub record PieceIn (l : List ℕ) (k : Piece) : Type 0 where
+  pub signed : (j : ℕ) → Half (getD (pieceNumbers k) j (pos 0))
+  pub sized : Sized (k .corners)
+  pub same : l ≡ pieceBlock k
+
+-- the checks of what is in the block
+abbrev pub inside : {A : Type 0} → (A → Type 0) → (A → List Check) → Check
+inside {A} In cs = record { passes = (a : A) × In a × Passes (cs a); fails = λ s. (a : A) × In a × Fault (cs a) s }
+
+-- a run block: its bytes, then the run's numbers; a piece block: its bytes, then the piece's numbers and its shape
+unfoldable pub runBlockChecks : List ℕ → List Check
+runBlockChecks l = (blockChecks l ++ runBytes l) ++ (inside (RunIn l) runChecks ∷ [])
+
+unfoldable pub pieceBlockChecks : List ℕ → List Check
+pieceBlockChecks l = (blockChecks l ++ pieceBytes l) ++ (inside (PieceIn l) pieceChecks ∷ [])
+
+-- ---- answers
+-- a header is accepted iff it is the header of so many pieces; a run block, iff it is the block of that run, which is good
+abbrev pub HeaderSays : List ℕ → HeaderRead → Type 0
+HeaderSays l (Count n) = Pieces n × (l ≡ headerBlock n)
+HeaderSays l (NoHeader x) = Fault (headerChecks l) (said x)
+
+abbrev pub RunSays : List ℕ → RunRead → Type 0
+RunSays l (Found r) = Passes (runChecks (runOf r)) × (l ≡ runBlock (runOf r))
+RunSays l (NoRun x) = Fault (runBlockChecks l) (said x)
+
+-- the numbers of k stand in r, with zeros after its corners
+pub record Holds (r : PieceRead) (k : Piece) : Type 0 where
+  pub numbers : pieceOf (r .band) (k .corners) ≡ k
+  pub count : r .count ≡ ring (k .corners) .size
+  pub corners : r .corners ≡ k .corners ++ replicate (128 - length (k .corners)) (pos 0)
+
+-- no corner, and every number zero
+abbrev pub nothing : Piece
+nothing = record { bottom = pos 0; top = pos 0; speed = record { x = pos 0; y = pos 0; z = pos 0 }; corners = [] }
+
+-- a piece block is accepted iff it is the block of that piece, which is good
+pub record PieceGood (l : List ℕ) (r : PieceRead) : Type 0 where
+  pub piece : Piece
+  pub good : Passes (pieceChecks piece)
+  pub same : l ≡ pieceBlock piece
+  pub holds : Holds r piece
+
+pub record PieceRefused (l : List ℕ) (x : Refusal) (r : PieceRead) : Type 0 where
+  pub fault : Fault (pieceBlockChecks l) x
+  pub holds : Holds r nothing
+
+abbrev pub PieceFound : List ℕ → PieceRead → Checked → Type 0
+PieceFound l r Good = PieceGood l r
+PieceFound l r (Refused x) = PieceRefused l (said x) r
+
+abbrev pub PieceSays : List ℕ → PieceRead → Type 0
+PieceSays l r = PieceFound l r (r .found)
+
+-- writing what the checks pass makes the block; otherwise the first fault is answered and every byte is as it was
+abbrev pub Writes : List Check → List ℕ → List ℕ → List ℕ → Checked → Type 0
+Writes cs made before after Good = Passes cs × (after ≡ made)
+Writes cs made before after (Refused x) = Fault cs (said x) × (after ≡ before)
+
+-- asked for with a count over 126: 3 at 5
+unfoldable pub headerAsked : List ℕ → ℕ → List Check
+headerAsked l n = lengthCheck l ∷ demand (Pieces n) (refuse 3 5 0) ∷ []
+
+-- first bytes to be put into a block, at most 510
+unfoldable pub bytesAsked : List ℕ → List ℕ → List Check
+bytesAsked l front = lengthCheck l ∷ demand (length front ≤ 510) (refuse 1 0 0) ∷ []
+
+-- a run or a piece in plain numbers
+unfoldable pub runAsked : List ℕ → Run → List Check
+runAsked l r = lengthCheck l ∷ runChecks r
+
+unfoldable pub pieceAsked : List ℕ → Piece → List Check
+pieceAsked l k = lengthCheck l ∷ pieceChecks k

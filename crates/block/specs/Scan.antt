@@ -1,0 +1,64 @@
+-- What the scans of a block find. Assumes nothing.
+use mathlib.Core.Path.{_≡_}
+use mathlib.Core.List.{List, [], _∷_, _++_}
+use Prim.Native.Nat.{ℕ, _+_, _*_, _≤_, _<_}
+use lib.IntN.{ℤ, pos}
+use lib.ListN.{length, getD}
+use Rattle.rules.specs.Reach.{Piece}
+use Rattle.piece.specs.declared.Run.{Run}
+use Rattle.piece.specs.declared.Band.{Band}
+use Rattle.block.specs.Layout.{byte, words, name, pieceNumbers}
+use Rattle.block.specs.Word.{Spelt}
+
+-- r is the first byte at or after `from` that is not zero, or 510
+pub record FirstByte (l : List ℕ) (from r : ℕ) : Type 0 where
+  pub above : from ≤ r
+  pub below : r ≤ 510
+  pub before : (k : ℕ) → from ≤ k → k < r → byte l k ≡ 0
+  pub found : r < 510 → byte l r ≡ 0 → ⊥
+
+-- r is the first letter that is not the name's, or 4
+pub record FirstLetter (l : List ℕ) (r : ℕ) : Type 0 where
+  pub below : r ≤ 4
+  pub before : (k : ℕ) → k < r → byte l k ≡ getD name k 0
+  pub found : r < 4 → byte l r ≡ getD name r 0 → ⊥
+
+-- two bytes and then numbers: what stands before the zeros
+pub record Front (kind second : ℕ) (numbers : List ℤ) (front : List ℕ) : Type 0 where
+  pub few : length front ≡ 268
+  pub each : (i : ℕ) → byte front i ≡ byte (kind ∷ second ∷ words numbers) i
+
+-- number j of a block stands at byte 2 + 2·j
+abbrev pub NumberAt : List ℕ → ℕ → ℤ → Type 0
+NumberAt l j z = Spelt (byte l (2 + 2 * j)) (byte l (3 + 2 * j)) z
+
+pub record RunAt (l : List ℕ) (r : Run) : Type 0 where
+  pub x : NumberAt l 0 (r .x)
+  pub y : NumberAt l 1 (r .y)
+  pub z : NumberAt l 2 (r .z)
+  pub vx : NumberAt l 3 (r .vx)
+  pub vy : NumberAt l 4 (r .vy)
+  pub vz : NumberAt l 5 (r .vz)
+  pub ticks : r .ticks ≡ byte l 14 + 256 * byte l 15
+
+pub record BandAt (l : List ℕ) (b : Band) : Type 0 where
+  pub bottom : NumberAt l 0 (b .bottom)
+  pub top : NumberAt l 1 (b .top)
+  pub vx : NumberAt l 2 (b .vx)
+  pub vy : NumberAt l 3 (b .vy)
+  pub vz : NumberAt l 4 (b .vz)
+
+-- n numbers of corners, with zeros after them
+pub record CornersAt (l : List ℕ) (n : ℕ) (a : List ℤ) : Type 0 where
+  pub all : length a ≡ 128
+  pub each : (j : ℕ) → j < n → NumberAt l (5 + j) (getD a j (pos 0))
+  pub rest : (j : ℕ) → n ≤ j → getD a j (pos 0) ≡ pos 0
+
+-- the first bytes of a header
+abbrev pub HeaderFront : ℕ → List ℕ → Type 0
+HeaderFront n front = front ≡ name ++ (1 ∷ n ∷ [])
+
+-- the numbers of a piece, with zeros after them
+pub record PieceNumbers (k : Piece) (a : List ℤ) : Type 0 where
+  pub all : length a ≡ 133
+  pub each : (j : ℕ) → getD a j (pos 0) ≡ getD (pieceNumbers k) j (pos 0)

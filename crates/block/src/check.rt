@@ -1,0 +1,64 @@
+// The check of a block, its last two bytes.
+use refusal::Checked;
+use refusal::Refusal;
+ghost use mathlib.Core.Path.{_≡_};
+ghost use mathlib.Core.List.{List};
+ghost use Prim.Native.Nat.{_+_, _≤_};
+ghost use lib.ListN.{length, set};
+ghost use Rattle.refusal.specs.Said.{Finds};
+ghost use Rattle.block.specs.Layout.{plainSum, weighedSum};
+ghost use Rattle.block.specs.Reading.{blockChecks};
+
+pub(crate) struct Sums {
+    pub plain: u32,
+    pub weighed: u32,
+}
+
+// The two sums, each with one remainder at its end: the largest are 130,050 and 33,227,775.
+pub(crate) fn sums_of(block: &[u8]) -> Sums
+    requires { ⌜ 510 ≤ length (now block) ⌝ }
+    ensures { λ r. ⌜ (r .plain ≡ plainSum (now (block .entry))) × (r .weighed ≡ weighedSum (now (block .entry))) ⌝ }
+{
+    let mut plain: u32 = 0;
+    let mut weighed: u32 = 0;
+    let mut i: usize = 0;
+    while i < 510 {
+        let byte = block[i] as u32;
+        plain += byte;
+        weighed += (510 - i) as u32 * byte;
+        i += 1;
+    }
+    Sums {
+        plain: plain % 255,
+        weighed: weighed % 255,
+    }
+}
+
+// The length of a block, and its check.
+pub fn check_block(block: &[u8]) -> Checked
+    ensures { λ r. ⌜ Finds (blockChecks (now (block .entry))) r ⌝ }
+{
+    if block.len() != 512 {
+        return Checked::Refused(Refusal::Length);
+    }
+    let right = sums_of(block);
+    let first = block[510] as u32;
+    let second = block[511] as u32;
+    if first != right.plain {
+        return Checked::Refused(Refusal::Check);
+    }
+    if second != right.weighed {
+        return Checked::Refused(Refusal::Check);
+    }
+    Checked::Good
+}
+
+// Puts the check in its place.
+pub(crate) fn seal(block: &mut [u8])
+    requires { ⌜ length (now block) ≡ 512 ⌝ }
+    ensures { λ _. ⌜ now (block .exit) ≡ set (set (now (block .entry)) 510 (plainSum (now (block .entry)))) 511 (weighedSum (now (block .entry))) ⌝ }
+{
+    let right = sums_of(block);
+    block[510] = right.plain as u8;
+    block[511] = right.weighed as u8;
+}

@@ -1,0 +1,90 @@
+// Bytes into a lent block.
+use crate::check::seal;
+use crate::word::bits_of;
+use crate::word::high;
+use crate::word::low;
+use refusal::Checked;
+use refusal::Refusal;
+ghost use mathlib.Core.Path.{_≡_};
+ghost use mathlib.Core.List.{_∷_};
+ghost use Prim.Native.Nat.{ℕ, _≤_, _<_};
+ghost use lib.IntN.{pos};
+ghost use lib.ListN.{length, getD};
+ghost use Rattle.block.specs.Layout.{byte, words, blockOf};
+ghost use Rattle.block.specs.Word.{Word};
+ghost use Rattle.block.specs.Reading.{Writes, bytesAsked};
+ghost use Rattle.block.specs.Scan.{Front};
+
+fn byte_at(front: &[u8], i: usize) -> u8
+    ensures { λ r. ⌜ r ≡ byte (now (front .entry)) i ⌝ }
+{
+    if i < front.len() { front[i] } else { 0 }
+}
+
+fn fill(front: &[u8], block: &mut [u8])
+    requires { ⌜ length (now block) ≡ 512 ⌝ }
+    ensures { λ _. ⌜ (length (now (block .exit)) ≡ 512) × ((i : ℕ) → i < 510 → byte (now (block .exit)) i ≡ byte (now (front .entry)) i) ⌝ }
+{
+    let mut i = 0;
+    while i < 510 {
+        block[i] = byte_at(front, i);
+        i += 1;
+    }
+}
+
+// The block of its first bytes.
+pub(crate) fn put(front: &[u8], block: &mut [u8])
+    requires { ⌜ (length (now front) ≤ 510) × (length (now block) ≡ 512) ⌝ }
+    ensures { λ _. ⌜ now (block .exit) ≡ blockOf (now (front .entry)) ⌝ }
+{
+    fill(front, block);
+    seal(block);
+}
+
+// The first bytes of a block, for whoever lays them out: at most 510; zeros and the check follow.
+pub fn write_bytes(front: &[u8], block: &mut [u8]) -> Checked
+    ensures { λ r. ⌜ Writes (bytesAsked (now (block .entry)) (now (front .entry))) (blockOf (now (front .entry))) (now (block .entry)) (now (block .exit)) r ⌝ }
+{
+    if block.len() != 512 {
+        return Checked::Refused(Refusal::Length);
+    }
+    if 510 < front.len() {
+        return Checked::Refused(Refusal::Length);
+    }
+    put(front, block);
+    Checked::Good
+}
+
+pub(crate) fn number_in(numbers: &[i32], j: usize) -> i32
+    ensures { λ r. ⌜ r ≡ getD (now (numbers .entry)) j (pos 0) ⌝ }
+{
+    if j < numbers.len() { numbers[j] } else { 0 }
+}
+
+fn front_byte(kind: u8, second: u8, numbers: &[i32], i: usize) -> u8
+    requires { ⌜ ((j : ℕ) → Word (getD (now numbers) j (pos 0))) ⌝ }
+    ensures { λ r. ⌜ r ≡ byte (kind ∷ second ∷ words (now (numbers .entry))) i ⌝ }
+{
+    if i == 0 {
+        return kind;
+    }
+    if i == 1 {
+        return second;
+    }
+    let bits = bits_of(number_in(numbers, (i - 2) / 2));
+    if i % 2 == 0 { low(bits) } else { high(bits) }
+}
+
+// What stands before the zeros of a run or a piece: kind, a second byte, the numbers.
+pub(crate) fn front_of(kind: u8, second: u8, numbers: &[i32]) -> [u8; 268]
+    requires { ⌜ (length (now numbers) ≤ 133) × ((j : ℕ) → Word (getD (now numbers) j (pos 0))) ⌝ }
+    ensures { λ r. ⌜ Front kind second (now (numbers .entry)) r ⌝ }
+{
+    let mut front = [0u8; 268];
+    let mut i = 0;
+    while i < 268 {
+        front[i] = front_byte(kind, second, numbers, i);
+        i += 1;
+    }
+    front
+}

@@ -1,0 +1,160 @@
+// A piece block.
+use crate::PieceRead;
+use crate::check::check_block;
+use crate::fill::front_of;
+use crate::fill::number_in;
+use crate::fill::put;
+use crate::scan::band_at;
+use crate::scan::check_unnamed;
+use crate::scan::corners_at;
+use piece::Band;
+use piece::check_piece;
+use refusal::Checked;
+use refusal::Refusal;
+ghost use mathlib.Core.Path.{_≡_};
+ghost use mathlib.Core.List.{_++_};
+ghost use Prim.Native.Nat.{ℕ, _≤_};
+ghost use lib.IntN.{pos};
+ghost use lib.ListN.{length, getD};
+ghost use Rattle.rules.specs.Ring.{ring};
+ghost use Rattle.rules.specs.Refusal.{Passes};
+ghost use Rattle.rules.specs.Good.{pieceChecks};
+ghost use Rattle.refusal.specs.Said.{Finds};
+ghost use Rattle.piece.specs.Numbers.{pieceOf};
+ghost use Rattle.block.specs.Layout.{pieceNumbers, pieceBlock};
+ghost use Rattle.block.specs.Reading.{blockChecks, pieceBytes, pieceAsked, PieceSays, Holds, nothing, Writes};
+ghost use Rattle.block.specs.Scan.{Front, PieceNumbers};
+
+// The bytes of a piece block that are no numbers: kind, corner count, unnamed bytes.
+fn check_piece_bytes(block: &[u8]) -> Checked
+    requires { ⌜ length (now block) ≡ 512 ⌝ }
+    ensures { λ r. ⌜ Finds (pieceBytes (now (block .entry))) r ⌝ }
+{
+    let kind = block[0];
+    if kind != 1 {
+        return Checked::Refused(Refusal::Kind(0));
+    }
+    let count = block[1] as usize;
+    if count < 3 {
+        return Checked::Refused(Refusal::Corners);
+    }
+    if 64 < count {
+        return Checked::Refused(Refusal::Corners);
+    }
+    check_unnamed(block, 12 + 4 * count)
+}
+
+fn check_piece_block(block: &[u8]) -> Checked
+    ensures { λ r. ⌜ Finds (blockChecks (now (block .entry)) ++ pieceBytes (now (block .entry))) r ⌝ }
+{
+    match check_block(block) {
+        Checked::Refused(x) => Checked::Refused(x),
+        Checked::Good => check_piece_bytes(block),
+    }
+}
+
+fn refused(x: Refusal) -> PieceRead
+    ensures { λ r. ⌜ (r .found ≡ Checked.Refused x) × Holds r nothing ⌝ }
+{
+    let corners = [0i32; 128];
+    PieceRead {
+        found: Checked::Refused(x),
+        band: Band {
+            bottom: 0,
+            top: 0,
+            vx: 0,
+            vy: 0,
+            vz: 0,
+        },
+        corners: corners,
+        count: 0,
+    }
+}
+
+// The piece in a block whose other bytes are right.
+fn piece_in(block: &[u8]) -> PieceRead
+    requires { ⌜ Passes (blockChecks (now block) ++ pieceBytes (now block)) ⌝ }
+    ensures { λ r. ⌜ PieceSays (now (block .entry)) r ⌝ }
+{
+    let count = block[1] as usize;
+    let n = 2 * count;
+    let band = band_at(block);
+    let corners = corners_at(block, n);
+    match check_piece(band, &corners[..n]) {
+        Checked::Refused(x) => refused(x),
+        Checked::Good => PieceRead {
+            found: Checked::Good,
+            band: band,
+            corners: corners,
+            count: count,
+        },
+    }
+}
+
+pub fn read_piece(block: &[u8]) -> PieceRead
+    ensures { λ r. ⌜ PieceSays (now (block .entry)) r ⌝ }
+{
+    match check_piece_block(block) {
+        Checked::Refused(x) => refused(x),
+        Checked::Good => piece_in(block),
+    }
+}
+
+fn piece_number(band: Band, corners: &[i32], j: usize) -> i32
+    ensures { λ r. ⌜ r ≡ getD (pieceNumbers (pieceOf band (now (corners .entry)))) j (pos 0) ⌝ }
+{
+    if j == 0 {
+        return band.bottom;
+    }
+    if j == 1 {
+        return band.top;
+    }
+    if j == 2 {
+        return band.vx;
+    }
+    if j == 3 {
+        return band.vy;
+    }
+    if j == 4 {
+        return band.vz;
+    }
+    number_in(corners, j - 5)
+}
+
+fn piece_numbers(band: Band, corners: &[i32]) -> [i32; 133]
+    requires { ⌜ length (now corners) ≤ 128 ⌝ }
+    ensures { λ r. ⌜ PieceNumbers (pieceOf band (now (corners .entry))) r ⌝ }
+{
+    let mut numbers = [0i32; 133];
+    let mut j = 0;
+    while j < 133 {
+        numbers[j] = piece_number(band, corners, j);
+        j += 1;
+    }
+    numbers
+}
+
+fn piece_front(band: Band, corners: &[i32]) -> [u8; 268]
+    requires { ⌜ Passes (pieceChecks (pieceOf band (now corners))) ⌝ }
+    ensures { λ r. ⌜ Front 1 (ring (now (corners .entry)) .size) (pieceNumbers (pieceOf band (now (corners .entry)))) r ⌝ }
+{
+    let numbers = piece_numbers(band, corners);
+    let count = (corners.len() / 2) as u8;
+    front_of(1, count, &numbers)
+}
+
+pub fn write_piece(band: Band, corners: &[i32], block: &mut [u8]) -> Checked
+    ensures { λ r. ⌜ Writes (pieceAsked (now (block .entry)) (pieceOf band (now (corners .entry)))) (pieceBlock (pieceOf band (now (corners .entry)))) (now (block .entry)) (now (block .exit)) r ⌝ }
+{
+    if block.len() != 512 {
+        return Checked::Refused(Refusal::Length);
+    }
+    match check_piece(band, corners) {
+        Checked::Refused(x) => Checked::Refused(x),
+        Checked::Good => {
+            let front = piece_front(band, corners);
+            put(&front, block);
+            Checked::Good
+        }
+    }
+}

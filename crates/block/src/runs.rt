@@ -1,0 +1,93 @@
+// A run block.
+use crate::RunRead;
+use crate::check::check_block;
+use crate::fill::front_of;
+use crate::fill::put;
+use crate::scan::check_unnamed;
+use crate::scan::run_at;
+use piece::Run;
+use piece::check_run;
+use refusal::Checked;
+use refusal::Refusal;
+ghost use mathlib.Core.Path.{_≡_};
+ghost use mathlib.Core.List.{_++_};
+ghost use lib.ListN.{length};
+ghost use Rattle.rules.specs.Refusal.{Passes};
+ghost use Rattle.rules.specs.Good.{runChecks};
+ghost use Rattle.refusal.specs.Said.{Finds};
+ghost use Rattle.piece.specs.Numbers.{runOf};
+ghost use Rattle.block.specs.Layout.{runNumbers, runBlock};
+ghost use Rattle.block.specs.Reading.{blockChecks, runBytes, runAsked, RunSays, Writes};
+ghost use Rattle.block.specs.Scan.{Front};
+
+// The bytes of a run block that are no numbers, by rising offset.
+fn check_run_bytes(block: &[u8]) -> Checked
+    requires { ⌜ length (now block) ≡ 512 ⌝ }
+    ensures { λ r. ⌜ Finds (runBytes (now (block .entry))) r ⌝ }
+{
+    let kind = block[0];
+    if kind != 2 {
+        return Checked::Refused(Refusal::Kind(0));
+    }
+    let second = block[1];
+    if second != 0 {
+        return Checked::Refused(Refusal::Kind(1));
+    }
+    check_unnamed(block, 16)
+}
+
+fn check_run_block(block: &[u8]) -> Checked
+    ensures { λ r. ⌜ Finds (blockChecks (now (block .entry)) ++ runBytes (now (block .entry))) r ⌝ }
+{
+    match check_block(block) {
+        Checked::Refused(x) => Checked::Refused(x),
+        Checked::Good => check_run_bytes(block),
+    }
+}
+
+pub fn read_run(block: &[u8]) -> RunRead
+    ensures { λ r. ⌜ RunSays (now (block .entry)) r ⌝ }
+{
+    match check_run_block(block) {
+        Checked::Refused(x) => RunRead::NoRun(x),
+        Checked::Good => {
+            let run = run_at(block);
+            match check_run(run) {
+                Checked::Refused(x) => RunRead::NoRun(x),
+                Checked::Good => RunRead::Found(run),
+            }
+        }
+    }
+}
+
+fn run_front(run: Run) -> [u8; 268]
+    requires { ⌜ Passes (runChecks (runOf run)) ⌝ }
+    ensures { λ r. ⌜ Front 2 0 (runNumbers (runOf run)) r ⌝ }
+{
+    let numbers = [
+        run.x,
+        run.y,
+        run.z,
+        run.vx,
+        run.vy,
+        run.vz,
+        run.ticks as i32,
+    ];
+    front_of(2, 0, &numbers)
+}
+
+pub fn write_run(run: Run, block: &mut [u8]) -> Checked
+    ensures { λ r. ⌜ Writes (runAsked (now (block .entry)) (runOf run)) (runBlock (runOf run)) (now (block .entry)) (now (block .exit)) r ⌝ }
+{
+    if block.len() != 512 {
+        return Checked::Refused(Refusal::Length);
+    }
+    match check_run(run) {
+        Checked::Refused(x) => Checked::Refused(x),
+        Checked::Good => {
+            let front = run_front(run);
+            put(&front, block);
+            Checked::Good
+        }
+    }
+}

@@ -1,0 +1,91 @@
+// What stands where in a block: bytes that must be zero, and numbers.
+use crate::word::number_of;
+use piece::Band;
+use piece::Run;
+use refusal::Checked;
+use refusal::Refusal;
+ghost use mathlib.Core.Path.{_≡_};
+ghost use mathlib.Core.List.{[], _∷_};
+ghost use Prim.Native.Nat.{_+_, _*_, _≤_, _<_};
+ghost use lib.ListN.{length};
+ghost use Rattle.refusal.specs.Said.{Finds};
+ghost use Rattle.block.specs.Layout.{byte};
+ghost use Rattle.block.specs.Word.{Spelt};
+ghost use Rattle.block.specs.Reading.{unnamedCheck};
+ghost use Rattle.block.specs.Scan.{FirstByte, RunAt, BandAt, CornersAt};
+
+pub(crate) fn first_byte(block: &[u8], from: usize) -> usize
+    requires { ⌜ (from ≤ 510) × (length (now block) ≡ 512) ⌝ }
+    ensures { λ r. ⌜ FirstByte (now (block .entry)) from r ⌝ }
+{
+    let mut i = from;
+    while i < 510 {
+        if block[i] != 0 {
+            return i;
+        }
+        i += 1;
+    }
+    i
+}
+
+pub(crate) fn check_unnamed(block: &[u8], from: usize) -> Checked
+    requires { ⌜ (from ≤ 510) × (length (now block) ≡ 512) ⌝ }
+    ensures { λ r. ⌜ Finds (unnamedCheck (now (block .entry)) from ∷ []) r ⌝ }
+{
+    let at = first_byte(block, from);
+    if at < 510 {
+        Checked::Refused(Refusal::Kind(at))
+    } else {
+        Checked::Good
+    }
+}
+
+pub(crate) fn number_at(block: &[u8], at: usize) -> i32
+    requires { ⌜ (at < 510) × (length (now block) ≡ 512) ⌝ }
+    ensures { λ r. ⌜ Spelt (byte (now (block .entry)) at) (byte (now (block .entry)) (at + 1)) r ⌝ }
+{
+    number_of(block[at], block[at + 1])
+}
+
+pub(crate) fn run_at(block: &[u8]) -> Run
+    requires { ⌜ length (now block) ≡ 512 ⌝ }
+    ensures { λ r. ⌜ RunAt (now (block .entry)) r ⌝ }
+{
+    let low = block[14] as u32;
+    let high = block[15] as u32;
+    Run {
+        x: number_at(block, 2),
+        y: number_at(block, 4),
+        z: number_at(block, 6),
+        vx: number_at(block, 8),
+        vy: number_at(block, 10),
+        vz: number_at(block, 12),
+        ticks: low + 256 * high,
+    }
+}
+
+pub(crate) fn band_at(block: &[u8]) -> Band
+    requires { ⌜ length (now block) ≡ 512 ⌝ }
+    ensures { λ r. ⌜ BandAt (now (block .entry)) r ⌝ }
+{
+    Band {
+        bottom: number_at(block, 2),
+        top: number_at(block, 4),
+        vx: number_at(block, 6),
+        vy: number_at(block, 8),
+        vz: number_at(block, 10),
+    }
+}
+
+pub(crate) fn corners_at(block: &[u8], n: usize) -> [i32; 128]
+    requires { ⌜ (n ≤ 128) × (length (now block) ≡ 512) ⌝ }
+    ensures { λ r. ⌜ CornersAt (now (block .entry)) n r ⌝ }
+{
+    let mut corners = [0i32; 128];
+    let mut j = 0;
+    while j < n {
+        corners[j] = number_at(block, 12 + 2 * j);
+        j += 1;
+    }
+    corners
+}
