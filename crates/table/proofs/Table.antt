@@ -1,0 +1,111 @@
+-- The worked examples that are in the proved set: one list of rows, one claim, computed. Assumes nothing.
+use mathlib.Core.List.{List, [], _∷_}
+use Prim.Native.Nat.{ℕ}
+use lib.IntN.{ℤ, pos, negsuc}
+use Rattle.rules.specs.Reach.{Run, Piece}
+use Rattle.rules.specs.Ring.{Pt, ring, next}
+use Rattle.rules.specs.Good.{pieceChecks}
+use Rattle.rules.specs.Place.{Count}
+use Rattle.rules.proofs.Crossing.{parity}
+use Rattle.refusal.specs.Said.{Finds}
+use Rattle.refusal.specs.declared.Checked.{Checked}
+use Rattle.refusal.specs.declared.Checked.the-variants.{Good, Refused}
+use Rattle.refusal.specs.declared.Refusal.the-variants.{Fold, Meet, Clockwise}
+use Rattle.decide.specs.Span.{clip, raise, lower, none}
+use Rattle.decide.specs.Touch.{onLine, within, onEdge, touch, touches, onSome, place, bandSpan, meets, code}
+use Rattle.piece.specs.declared.Placed.{Placed}
+use Rattle.piece.specs.declared.Placed.the-variants.{Inside, Outside}
+use Rattle.piece.specs.declared.motion.Verdict.{Verdict}
+use Rattle.piece.specs.declared.motion.Verdict.the-variants.{Clear, Mark}
+use Rattle.piece.specs.Shape.{back}
+use Rattle.piece.specs.Place.{pt, Lies}
+use Rattle.piece.specs.Tells.{Tells}
+use Rattle.table.proofs.Judge.{seekFrom, shapeOf, footprintOf, judge, judge-right, placeOf, place-lies, tally, tally-counts, runOf, verdictOf, verdict-tells}
+
+-- a verdict told, a place asked, edges counted, or a piece checked, with the answer
+pub data Row : Type 0 where
+  told : Run → List ℤ → Verdict → Row
+  asked : Pt → List ℤ → Placed → Row
+  counted : Pt → List ℤ → ℕ → Row
+  checked : List ℤ → Checked → Row
+
+-- with the band 0 to 32, still
+abbrev pub piece : List ℤ → Piece
+piece l = record { bottom = pos 0; top = pos 32; speed = record { x = pos 0; y = pos 0; z = pos 0 }; corners = l }
+
+abbrev pub run : ℤ → ℤ → ℤ → ℤ → ℤ → ℤ → ℕ → Run
+run x y z u v w t = record { start = record { x = x; y = y; z = z }; speed = record { x = u; y = v; z = w }; ticks = t }
+
+abbrev pub True : Row → Type 0
+True (told r l v) = Tells r (piece l) v
+True (asked p l r) = Lies p l r
+True (counted p l k) = Count (ring l) p (ring l .size) k
+True (checked l r) = Finds (pieceChecks (piece l)) r
+
+abbrev pub AllTrue : List Row → Type 0
+AllTrue [] = Unit {0}
+AllTrue (r ∷ rs) = True r × AllTrue rs
+
+abbrev pub q : List ℤ
+q = pos 0 ∷ pos 0 ∷ pos 64 ∷ pos 0 ∷ pos 64 ∷ pos 64 ∷ pos 0 ∷ pos 64 ∷ []
+
+abbrev pub u : List ℤ
+u = pos 0 ∷ pos 0 ∷ pos 96 ∷ pos 0 ∷ pos 96 ∷ pos 96 ∷ pos 64 ∷ pos 96 ∷ pos 64 ∷ pos 32 ∷ pos 32 ∷ pos 32 ∷ pos 32 ∷ pos 96 ∷ pos 0 ∷ pos 96 ∷ []
+
+abbrev pub crossed : List ℤ
+crossed = pos 0 ∷ pos 0 ∷ pos 64 ∷ pos 64 ∷ pos 64 ∷ pos 0 ∷ pos 0 ∷ pos 64 ∷ []
+
+abbrev pub folded : List ℤ
+folded = pos 0 ∷ pos 0 ∷ pos 64 ∷ pos 0 ∷ pos 32 ∷ pos 0 ∷ pos 32 ∷ pos 64 ∷ []
+
+abbrev pub clockwise : List ℤ
+clockwise = pos 0 ∷ pos 0 ∷ pos 0 ∷ pos 64 ∷ pos 64 ∷ pos 64 ∷ pos 64 ∷ pos 0 ∷ []
+
+abbrev pub rows : List Row
+rows =
+    told (run (negsuc 63) (pos 32) (pos 16) (pos 16) (pos 0) (pos 0) 4) q (Mark 1024)
+    ∷ told (run (negsuc 63) (pos 32) (pos 16) (pos 16) (pos 0) (pos 0) 3) q Clear
+    ∷ told (run (pos 32) (pos 32) (pos 16) (pos 0) (pos 0) (pos 0) 0) q (Mark 0)
+    ∷ told (run (negsuc 31) (pos 32) (pos 16) (pos 16) (pos 16) (pos 0) 8) q (Mark 512)
+    ∷ told (run (negsuc 63) (pos 32) (pos 16) (pos 3) (pos 0) (pos 0) 22) q (Mark 5461)
+    ∷ told (run (negsuc 63) (pos 32) (pos 40) (pos 16) (pos 0) (negsuc 0) 16) q (Mark 2048)
+    ∷ told (run (negsuc 63) (pos 32) (pos 40) (pos 17) (pos 0) (negsuc 0) 16) q Clear
+    ∷ told (run (negsuc 99) (pos 32) (pos 16) (pos 255) (pos 0) (pos 0) 1) q (Mark 100)
+    ∷ told (run (pos 48) (pos 200) (pos 16) (pos 0) (negsuc 7) (pos 0) 21) u (Mark 5376)
+    ∷ told (run (negsuc 63) (pos 32) (pos 16) (pos 7) (pos 0) (pos 0) 10) q (Mark 2340)
+    ∷ asked (pt (pos 48) (pos 64)) u Outside
+    ∷ asked (pt (pos 48) (pos 16)) u Inside
+    ∷ asked (pt (pos 32) (negsuc 15)) u Outside
+    ∷ counted (pt (pos 32) (negsuc 15)) u 2
+    ∷ checked q Good
+    ∷ checked u Good
+    ∷ checked crossed (Refused (Meet 0 2))
+    ∷ checked folded (Refused (Fold 1))
+    ∷ checked clockwise (Refused Clockwise)
+    ∷ []
+
+-- the answer that is computed for a row, put in the place of the row's own
+abbrev computed : Row → Row
+computed (told r l v) = told r l (verdictOf r (piece l))
+computed (asked p l r) = asked p l (placeOf p l)
+computed (counted p l k) = counted p l (tally (ring l) p (ring l .size))
+computed (checked l r) = checked l (judge (piece l))
+
+computed-true : (r : Row) → True (computed r)
+computed-true (told r l v) = verdict-tells r (piece l)
+computed-true (asked p l r) = place-lies p l
+computed-true (counted p l k) = tally-counts (ring l) p (ring l .size)
+computed-true (checked l r) = judge-right (piece l)
+
+abbrev allComputed : List Row → List Row
+allComputed [] = []
+allComputed (r ∷ rs) = computed r ∷ allComputed rs
+
+all-true : (rs : List Row) → AllTrue (allComputed rs)
+all-true [] = tt
+all-true (r ∷ rs) = (computed-true r, all-true rs)
+
+-- every row is what is computed for it
+pub table : AllTrue rows
+unfolding seekFrom shapeOf footprintOf judge placeOf tally runOf verdictOf next back place onSome parity clip raise lower none onLine within onEdge touch touches bandSpan meets code
+table = all-true rows

@@ -1,0 +1,1 @@
+// The worked examples, proved from the definitions. No code: see proofs/.
