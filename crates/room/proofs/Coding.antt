@@ -1,0 +1,169 @@
+-- Laws of the pass over a room: the corners that a reading holds, a code for each piece, and the codes in the lent list. Assumes nothing.
+use mathlib.Core.Path.{_≡_, refl, sym, ap, subst, _∙_}
+use mathlib.Core.Logic.{inl}
+use mathlib.Core.List.{List, [], _∷_, _++_}
+use Prim.Native.Nat.{ℕ, suc, _+_, _*_, _-_, _≤_, _<_}
+use native.Mathlib.Omega.{arith}
+use native.Mathlib.Numerals.{add-one}
+use borrow.Author.Count.{below-more}
+use lib.IntN.{ℤ, pos}
+use lib.ListN.{length, take, getD, set, replicate, length-append, length-set}
+use lib.Seq.{take-at, getD-set-same, getD-set-other}
+use Rattle.rules.specs.Reach.{Run, Piece}
+use Rattle.rules.specs.Refusal.{refuse, Check, Passes, Fault, demand}
+use Rattle.rules.specs.Good.{Sized, runChecks}
+use Rattle.rules.proofs.Reach.{run-known, piece-known}
+use Rattle.rules.proofs.Checks.{passes-append, passes-left, fault-left, fault-right}
+use Rattle.refusal.specs.declared.Refusal.{Refusal}
+use Rattle.refusal.specs.declared.Refusal.the-variants.{Short}
+use Rattle.refusal.specs.Said.{said}
+use Rattle.piece.specs.Numbers.{pieceOf}
+use Rattle.piece.specs.Code.{CodeSays}
+use Rattle.block.specs.declared.PieceRead.{PieceRead}
+use Rattle.block.specs.Reading.{pieceBlockChecks, PieceGood}
+use Rattle.block.proofs.PieceLaws.{sized-length, sized-most, good-sized, piece-passes}
+use Rattle.room.specs.Image.{blockAt, count, saidIn, headChecks, piecesCheck, roomChecks}
+use Rattle.room.specs.declared.Counted.the-variants.{Refused}
+use Rattle.room.specs.Verdicts.{verdictsChecks, CodeOf, Filled, VerdictsSay}
+use Rattle.room.specs.Codes.{CodesTo, AllCoded, Stored}
+use Rattle.room.proofs.Images.{fault-zero, head-few}
+
+-- ---- the corners that a reading holds
+module _ (l : List ℕ) (r : PieceRead) (g : PieceGood l r) where
+  abbrev k : Piece
+  k = g .piece
+
+  sized : Sized (k .corners)
+  sized = good-sized k (g .good)
+
+  pub held-count : 2 * r .count ≡ length (k .corners)
+  held-count = let e = sized-length (k .corners) sized in let f = g .holds .count in omega arith
+
+  pub held-few : 2 * r .count ≤ 128
+  held-few = let e = sized-most (k .corners) sized in let f = held-count in omega arith
+
+  pub held-long : 2 * r .count ≤ length (r .corners)
+  held-long =
+      let f = held-count in
+      omega (arith, simp length-append at (ap length (g .holds .corners)))
+
+  held-corners : take (2 * r .count) (r .corners) ≡ k .corners
+  held-corners = ap (take (2 * r .count)) (g .holds .corners) ∙ take-at (k .corners) (replicate (128 - length (k .corners)) (pos 0)) (2 * r .count) (sym held-count)
+
+  pub held-piece : pieceOf (r .band) (take (2 * r .count) (r .corners)) ≡ k
+  held-piece = ap (λ (m : List ℤ). pieceOf (r .band) m) held-corners ∙ g .holds .numbers
+
+-- ---- the code of a piece
+module _ (r : Run) (image : List ℕ) (good : Passes (runChecks r)) where
+  pub code-good : (i : ℕ) (p : PieceRead) → PieceGood (blockAt image (suc i)) p → (c : ℕ) → CodeSays r (pieceOf (p .band) (take (2 * p .count) (p .corners))) c → CodeOf r image i c
+  code-good i p g c h = record {
+    piece = g .piece;
+    block = g .same;
+    good = g .good;
+    verdict = subst (λ (m : Piece). CodeSays r m c) (held-piece _ p g) h .verdict (run-known r good) (piece-known (g .piece) (g .good));
+  }
+
+-- a piece that has a code passes
+pub code-passes : (r : Run) (image : List ℕ) (i c : ℕ) → CodeOf r image i c → Passes (pieceBlockChecks (blockAt image (suc i)))
+code-passes r image i c h = rw (h .block) (piece-passes (h .piece) (h .good))
+
+module _ (r : Run) (image : List ℕ) where
+  pub codes-none : (codes : List ℕ) → CodesTo r image codes 0
+  codes-none codes i h = absurd (never i h)
+    where
+      never : (i : ℕ) → i < 0 → ⊥
+      never i h = omega arith
+
+  pub codes-more : (codes : List ℕ) (i c : ℕ) → i < length codes → CodesTo r image codes i → CodeOf r image i c → CodesTo r image (set codes i c) (i + 1)
+  codes-more codes i c l h new =
+      below-more (λ j. CodeOf r image j (getD (set codes i c) j 0)) i
+      (λ j k. rw (getD-set-other codes i j c 0 (λ e. ne j i k e)) (h j k))
+      (rw (getD-set-same codes i c 0 l) new)
+    where
+      ne : (j i : ℕ) → j < i → j ≡ i → ⊥
+      ne j i k e = omega arith
+
+  -- every piece passes where the pieces have codes
+  pub codes-pass : (codes : List ℕ) → Passes (headChecks image) → CodesTo r image codes (count image) → Passes (roomChecks image)
+  unfolding roomChecks
+  codes-pass codes p h = passes-append (headChecks image) (piecesCheck image ∷ []) p (λ i k. code-passes r image i (getD codes i 0) (h i k), tt)
+
+  -- the first piece that is refused
+  pub codes-stop : (codes : List ℕ) (i : ℕ) (x : Refusal) → Passes (headChecks image) → i < count image → CodesTo r image codes i → Fault (pieceBlockChecks (blockAt image (suc i))) (said x) → Fault (roomChecks image) (saidIn x (i + 1))
+  unfolding roomChecks
+  codes-stop codes i x p l h f =
+      rw (add-one i)
+      (fault-right (headChecks image) (piecesCheck image ∷ []) (saidIn x (suc i)) p
+      (inl (i, said x, record { below = l; before = λ j k. code-passes r image j (getD codes j 0) (h j k); fault = f }, refl)))
+
+  pub coded-few : (codes : List ℕ) (n : ℕ) → AllCoded r image codes n → n ≤ 126
+  unfolding roomChecks
+  coded-few codes n a = let e = a .pieces in let h = head-few image (passes-left (headChecks image) (piecesCheck image ∷ []) (a .passes)) in omega arith
+
+-- a fault of the head is one of the room
+pub head-fault : (image : List ℕ) (x : Refusal) (b : ℕ) → Fault (headChecks image) (saidIn x b) → Fault (roomChecks image) (saidIn x b)
+unfolding roomChecks
+head-fault image x b f = fault-left (headChecks image) (piecesCheck image ∷ []) (saidIn x b) f
+
+-- ---- the lent list
+pub stored-none : (codes l : List ℕ) → Stored codes 0 l l
+stored-none codes l = record { size = refl; first = λ i h. absurd (never i h); rest = λ i h. refl }
+  where
+    never : (i : ℕ) → i < 0 → ⊥
+    never i h = omega arith
+
+pub stored-more : (codes before l : List ℕ) (i : ℕ) → i < length l → Stored codes i before l → Stored codes (i + 1) before (set l i (getD codes i 0))
+stored-more codes before l i h s = record {
+  size = length-set l i (getD codes i 0) ∙ s .size;
+  first = below-more (λ j. getD (set l i (getD codes i 0)) j 0 ≡ getD codes j 0) i
+      (λ j k. getD-set-other l i j (getD codes i 0) 0 (λ e. ne j i k e) ∙ s .first j k)
+      (getD-set-same l i (getD codes i 0) 0 h);
+  rest = λ j k. getD-set-other l i j (getD codes i 0) 0 (λ e. past j i k e) ∙ s .rest j (le j i k);
+}
+  where
+    ne : (j i : ℕ) → j < i → j ≡ i → ⊥
+    ne j i k e = omega arith
+
+    past : (j i : ℕ) → i + 1 ≤ j → j ≡ i → ⊥
+    past j i k e = omega arith
+
+    le : (j i : ℕ) → i + 1 ≤ j → i ≤ j
+    le j i k = omega arith
+
+-- ---- the verdicts
+module _ (r : Run) (image : List ℕ) where
+  -- the demand on the lent list
+  abbrev last : List ℕ → List Check
+  last list = demand (count image ≤ length list) (refuse 10 0 0) ∷ []
+
+  pub run-refused : (list : List ℕ) (x : Refusal) → Fault (runChecks r) (said x) → VerdictsSay r image list list (Refused x 0)
+  unfolding verdictsChecks
+  run-refused list x f = (fault-left (runChecks r) (roomChecks image ++ last list) (saidIn x 0) (fault-zero (runChecks r) x f), refl)
+
+  module _ (good : Passes (runChecks r)) where
+    pub room-refused : (list : List ℕ) (x : Refusal) (b : ℕ) → Fault (roomChecks image) (saidIn x b) → VerdictsSay r image list list (Refused x b)
+    unfolding verdictsChecks
+    room-refused list x b f =
+        (fault-right (runChecks r) (roomChecks image ++ last list) (saidIn x b) good (fault-left (roomChecks image) (last list) (saidIn x b) f), refl)
+
+    module _ (codes : List ℕ) (n : ℕ) (all : AllCoded r image codes n) where
+      pub list-short : (list : List ℕ) → length list < n → VerdictsSay r image list list (Refused Short 0)
+      unfolding verdictsChecks
+      list-short list h =
+          let e = all .pieces in (
+            fault-right (runChecks r) (roomChecks image ++ last list) (refuse 10 0 0) good
+                (fault-right (roomChecks image) (last list) (refuse 10 0 0) (all .passes) (inl (λ k. omega arith, refl))),
+            refl,
+          )
+
+      pub list-filled : (before after : List ℕ) → n ≤ length before → Stored codes n before after → Filled r image before after n
+      unfolding verdictsChecks
+      list-filled before after h s =
+          let e = all .pieces in
+          record {
+            passes = passes-append (runChecks r) (roomChecks image ++ last before) good (passes-append (roomChecks image) (last before) (all .passes) (omega arith, tt));
+            pieces = e;
+            size = s .size;
+            verdicts = λ i k. let l : i < n = omega arith in rw (s .first i l) (all .coded i k);
+            rest = λ i k. s .rest i (omega arith);
+          }

@@ -1,0 +1,96 @@
+-- Laws of images: what length, header and length against count say, and where piece i stands. Assumes nothing.
+use mathlib.Core.Path.{_≡_, refl, sym, subst, _∙_}
+use mathlib.Core.Logic.{inl, inr}
+use mathlib.Core.List.{List, [], _∷_}
+use Prim.Native.Nat.{ℕ, suc, _+_, _*_, _-_, _≤_, _<_}
+use native.Mathlib.Omega.{arith}
+use lib.ListN.{length, take, drop}
+use lib.Seq.{getD-take}
+use Rattle.rules.specs.Refusal as rules
+use Rattle.rules.specs.Refusal.{refuse, Check, Passes, Fault, demand}
+use Rattle.rules.proofs.Checks.{passes-append, passes-left, passes-right, fault-left, fault-right}
+use Rattle.refusal.specs.declared.Refusal.{Refusal}
+use Rattle.refusal.specs.declared.Refusal.the-variants.{Length, Check as Seal, Kind, Reach, Corners, Same, Fold, Meet, Clockwise, Short, NotNumber, Beyond, OffGrid}
+use Rattle.refusal.specs.Said.{said}
+use Rattle.block.specs.Layout.{byte}
+use Rattle.block.specs.Reading.{headerChecks, HeaderSays}
+use Rattle.block.specs.declared.HeaderRead.the-variants.{Count as Pieced, NoHeader}
+use Rattle.block.proofs.Headers.{header-passes, header-one, header-is, header-count}
+use Rattle.room.specs.declared.Counted.the-variants.{Count, Refused}
+use Rattle.room.specs.Image.{blockAt, count, Whole, saidIn, headChecks, HeadSays, Has}
+
+-- outside a room the block is 0
+pub said-zero : (x : Refusal) → saidIn x 0 ≡ said x
+said-zero Length = refl
+said-zero Seal = refl
+said-zero (Kind a) = refl
+said-zero (Reach a) = refl
+said-zero Corners = refl
+said-zero (Same a) = refl
+said-zero (Fold a) = refl
+said-zero (Meet a b) = refl
+said-zero Clockwise = refl
+said-zero Short = refl
+said-zero (NotNumber a b) = refl
+said-zero (Beyond a b) = refl
+said-zero (OffGrid a b) = refl
+
+pub fault-zero : (cs : List Check) (x : Refusal) → Fault cs (said x) → Fault cs (saidIn x 0)
+fault-zero cs x f = subst (λ (r : rules.Refusal). Fault cs r) (sym (said-zero x)) f
+
+-- ---- the head
+module _ (image : List ℕ) where
+  -- the header's block, and the demand after it
+  abbrev b : List ℕ
+  b = blockAt image 0
+
+  abbrev last : List Check
+  last = demand (length image ≡ 512 * suc (count image)) (refuse 1 0 0) ∷ []
+
+  first-five : byte b 5 ≡ count image
+  unfolding blockAt
+  first-five = getD-take 512 (drop (512 * 0) image) 5 0 (omega arith)
+
+  pub not-whole : (Whole image → ⊥) → HeadSays image (Refused Length 0)
+  unfolding headChecks
+  not-whole f = inl (f, refl)
+
+  pub no-header : Whole image → (x : Refusal) → HeaderSays b (NoHeader x) → HeadSays image (Refused x 0)
+  unfolding headChecks
+  no-header w x f = inr (w, fault-left (headerChecks b) last (saidIn x 0) (fault-zero (headerChecks b) x f))
+
+  module _ (w : Whole image) (n : ℕ) (h : HeaderSays b (Pieced n)) where
+    header : Passes (headerChecks b)
+    header = subst (λ (l : List ℕ). Passes (headerChecks l)) (sym (h .1)) (header-passes n (h .0))
+
+    counts : n ≡ count image
+    counts = header-one n (byte b 5) (sym (h .1) ∙ header-is b header) ∙ first-five
+
+    pub head-good : length image ≡ 512 * (n + 1) → HeadSays image (Count n)
+    unfolding headChecks
+    head-good e = let c = counts in ((w, passes-append (headerChecks b) last header (omega arith, tt)), c)
+
+    pub head-bad : (length image ≡ 512 * (n + 1) → ⊥) → HeadSays image (Refused Length 0)
+    unfolding headChecks
+    head-bad f = let c = counts in inr (w, fault-right (headerChecks b) last (refuse 1 0 0) header (inl (λ e. f (omega arith), refl)))
+
+  module _ (p : Passes (headChecks image)) where
+    pub head-few : count image ≤ 126
+    unfolding headChecks
+    head-few = rw (← first-five) (header-count b (passes-left (headerChecks b) last (p .1)))
+
+    pub head-long : length image ≡ 512 * suc (count image)
+    unfolding headChecks
+    head-long = passes-right (headerChecks b) last (p .1) .0
+
+-- ---- piece i
+pub part-is : (image : List ℕ) (i : ℕ) → take (512 * (i + 1) + 512 - 512 * (i + 1)) (drop (512 * (i + 1)) image) ≡ blockAt image (suc i)
+unfolding blockAt
+part-is image i =
+    let e : 512 * (i + 1) + 512 - 512 * (i + 1) ≡ 512 = omega arith in let f : 512 * (i + 1) ≡ 512 * suc i = omega arith in rw (e, f)
+
+pub has-few : (image : List ℕ) (i : ℕ) → Has image i → i < 126
+has-few image i h = let f = head-few image (h .head) in let g = h .below in omega arith
+
+pub has-long : (image : List ℕ) (i : ℕ) → Has image i → 512 * (i + 1) + 512 ≤ length image
+has-long image i h = let f = head-long image (h .head) in let g = h .below in omega arith

@@ -1,0 +1,4 @@
+pub mod Coding
+pub mod Images
+pub mod Steps
+pub mod Unique

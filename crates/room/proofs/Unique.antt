@@ -1,0 +1,173 @@
+-- At most one step, and at most one answer and list of verdicts, meet their contracts; and the end and a refusal repeat. Assumes nothing.
+use mathlib.Core.Path.{_≡_, refl, sym, ap, subst, _∙_}
+use mathlib.Core.Logic.{⊎-elim}
+use mathlib.Core.List.{List, [], _∷_}
+use Prim.Native.Nat.{ℕ, suc, _≤_, _<_}
+use native.Mathlib.Omega.{arith}
+use lib.ListN.{getD}
+use lib.Seq.{ext-getD}
+use denote.Ref.{RefT}
+use Rattle.whole.proofs.Order.{ℕ-or}
+use Rattle.rules.specs.Reach.{Run, Piece}
+use Rattle.rules.specs.Refusal as rules
+use Rattle.rules.specs.Refusal.{Passes, Fault}
+use Rattle.rules.specs.Good.{runChecks}
+use Rattle.rules.specs.Verdict.{Verdict}
+use Rattle.rules.proofs.Checks.{only, Sharp, AllSharp, never-both, one-fault, sharp-demand, sharp-append}
+use Rattle.rules.proofs.Good.{sharp-run}
+use Rattle.rules.proofs.Verdict.{one-verdict}
+use Rattle.decide.specs.Touch.{answer}
+use Rattle.decide.proofs.Answer.{answer-one}
+use Rattle.refusal.specs.declared.Refusal.{Refusal}
+use Rattle.refusal.proofs.Unique.{said-one}
+use Rattle.block.specs.Reading.{headerChecks, pieceBlockChecks, PieceIn, Holds, PieceGood}
+use Rattle.block.proofs.PieceLaws.{good-in, piece-passes, piece-one}
+use Rattle.block.proofs.Sharp.{sharp-header, sharp-piece-block}
+use Rattle.block.proofs.Unique.{read-piece-one}
+use Rattle.room.specs.declared.Counted.{Counted}
+use Rattle.room.specs.declared.Counted.the-variants.{Count, Refused as NoCount}
+use Rattle.room.specs.declared.Found.{Found}
+use Rattle.room.specs.declared.Found.the-variants.{Piece as Good, End, Refused}
+use Rattle.room.specs.declared.Reader.{Reader}
+use Rattle.room.specs.declared.Step.{Step}
+use Rattle.room.specs.Image.{blockAt, count, inBlock, saidIn, headChecks, FirstRefused, piecesCheck, roomChecks}
+use Rattle.room.specs.Step.{pieceRead, StepFault, head, block, StepFinds, StepSays}
+use Rattle.room.specs.Verdicts.{verdictsChecks, CodeOf, Filled, VerdictsSay}
+use Rattle.room.proofs.Images.{said-zero}
+
+-- ---- the checks are sharp
+pub sharp-head : (image : List ℕ) → AllSharp (headChecks image)
+unfolding headChecks
+sharp-head image = (sharp-demand _ _, sharp-append (headerChecks (blockAt image 0)) _ (sharp-header (blockAt image 0)) (sharp-demand _ _, tt))
+
+module _ (image : List ℕ) where
+  -- a piece does not pass and fail
+  clash : (i : ℕ) (r : rules.Refusal) → Passes (pieceBlockChecks (blockAt image (suc i))) → Fault (pieceBlockChecks (blockAt image (suc i))) r → ⊥
+  clash i r p f = never-both (pieceBlockChecks (blockAt image (suc i))) (sharp-piece-block (blockAt image (suc i))) r p f
+
+  first-one : (n i j : ℕ) (r s : rules.Refusal) → FirstRefused image n i r → FirstRefused image n j s → inBlock (suc i) r ≡ inBlock (suc j) s
+  first-one n i j r s f g =
+      let e = only i j (λ l. clash i r (g .before i l) (f .fault)) (λ l. clash j s (f .before j l) (g .fault)) in
+      same i j r s e
+      (one-fault (pieceBlockChecks (blockAt image (suc j))) (sharp-piece-block (blockAt image (suc j))) r s
+      (subst (λ (k : ℕ). Fault (pieceBlockChecks (blockAt image (suc k))) r) e (f .fault)) (g .fault))
+    where
+      same : (i j : ℕ) (r s : rules.Refusal) → i ≡ j → r ≡ s → inBlock (suc i) r ≡ inBlock (suc j) s
+      same i j r s e f = rw (e, f)
+
+  sharp-pieces : Sharp (piecesCheck image)
+  sharp-pieces = record {
+    never = λ s p f. clash (f .0) (f .1) (p (f .0) (f .2 .below)) (f .2 .fault);
+    one = λ s t f g. f .3 ∙ first-one (count image) (f .0) (g .0) (f .1) (g .1) (f .2) (g .2) ∙ sym (g .3);
+  }
+
+  pub sharp-room : AllSharp (roomChecks image)
+  unfolding roomChecks
+  sharp-room = sharp-append (headChecks image) (piecesCheck image ∷ []) (sharp-head image) (sharp-pieces, tt)
+
+pub sharp-verdicts : (r : Run) (image list : List ℕ) → AllSharp (verdictsChecks r image list)
+unfolding verdictsChecks
+sharp-verdicts r image list = sharp-append (runChecks r) _ (sharp-run r) (sharp-append (roomChecks image) _ (sharp-room image) (sharp-demand _ _, tt))
+
+-- ---- a refusal and its block are told by what they say
+block-one : (x y : Refusal) (a b : ℕ) → saidIn x a ≡ saidIn y b → a ≡ b
+block-one x y a b e = ap (λ (r : rules.Refusal). r .block) e
+
+refusal-one : (x y : Refusal) (a b : ℕ) → saidIn x a ≡ saidIn y b → x ≡ y
+refusal-one x y a b e = said-one x y (sym (said-zero x) ∙ ap (inBlock 0) e ∙ said-zero y)
+
+-- ---- steps
+-- the same numbers, found and next
+same-step : (s t : Step) (k : Piece) → s .found ≡ t .found → s .next ≡ t .next → Holds (pieceRead s) k → Holds (pieceRead t) k → s ≡ t
+same-step s t k d n h g =
+    let q = h .numbers ∙ sym (g .numbers) in
+    λ i. record {
+      found = d i;
+      band = record { bottom = q i .bottom; top = q i .top; vx = q i .speed .x; vy = q i .speed .y; vz = q i .speed .z };
+      corners = (h .corners ∙ sym (g .corners)) i;
+      count = (h .count ∙ sym (g .count)) i;
+      next = n i;
+    }
+
+module _ (image : List ℕ) (place : ℕ) where
+  fault-one : (r s : rules.Refusal) → StepFault image place r → StepFault image place s → r ≡ s
+  fault-one r s (head f) (head g) = one-fault (headChecks image) (sharp-head image) r s f g
+  fault-one r s (head f) (block p l x g e) = absurd (never-both (headChecks image) (sharp-head image) r p f)
+  fault-one r s (block p l x f e) (head g) = absurd (never-both (headChecks image) (sharp-head image) s p g)
+  fault-one r s (block p l x f e) (block q m y g d) =
+      e ∙ ap (inBlock (suc place)) (one-fault (pieceBlockChecks (blockAt image (suc place))) (sharp-piece-block (blockAt image (suc place))) x y f g) ∙ sym d
+
+  -- no fault where the head passes and the block passes or none stands there
+  no-fault : Passes (headChecks image) → (place < count image → (r : rules.Refusal) → Fault (pieceBlockChecks (blockAt image (suc place))) r → ⊥) → (r : rules.Refusal) → StepFault image place r → ⊥
+  no-fault p h r (head f) = never-both (headChecks image) (sharp-head image) r p f
+  no-fault p h r (block q l x f e) = h l x f
+
+  good-passes : (s : Step) → PieceGood (blockAt image (suc place)) (pieceRead s) → Passes (pieceBlockChecks (blockAt image (suc place)))
+  good-passes s g = subst (λ (l : List ℕ). Passes (pieceBlockChecks l)) (sym (g .same)) (piece-passes (g .piece) (g .good))
+
+  past : (n : ℕ) → place < n → n ≤ place → ⊥
+  past n h g = omega arith
+
+  finds-one : (s t : Step) (f g : Found) → s .found ≡ f → t .found ≡ g → StepFinds image place s f → StepFinds image place t g → s ≡ t
+  finds-one s t Good Good d e f g =
+      let q = read-piece-one (blockAt image (suc place)) (pieceRead s) (pieceRead t) (f .good) (g .good) in
+      λ i. record { found = (d ∙ sym e) i; band = q i .band; corners = q i .corners; count = q i .count; next = (f .next ∙ sym (g .next)) i }
+  finds-one s t Good End d e f g = absurd (past (count image) (f .below) (g .past))
+  finds-one s t Good (Refused y b) d e f g = absurd (no-fault (f .head) (λ l r h. clash image place r (good-passes s (f .good)) h) (saidIn y b) (g .fault))
+  finds-one s t End Good d e f g = absurd (past (count image) (g .below) (f .past))
+  finds-one s t End End d e f g = same-step s t _ (d ∙ sym e) (f .next ∙ sym (g .next)) (f .empty) (g .empty)
+  finds-one s t End (Refused y b) d e f g = absurd (no-fault (f .head) (λ l r h. past (count image) l (f .past)) (saidIn y b) (g .fault))
+  finds-one s t (Refused x a) Good d e f g = absurd (no-fault (g .head) (λ l r h. clash image place r (good-passes t (g .good)) h) (saidIn x a) (f .fault))
+  finds-one s t (Refused x a) End d e f g = absurd (no-fault (g .head) (λ l r h. past (count image) l (g .past)) (saidIn x a) (f .fault))
+  finds-one s t (Refused x a) (Refused y b) d e f g =
+      let q = fault-one (saidIn x a) (saidIn y b) (f .fault) (g .fault) in
+      same-step s t _ (d ∙ refused (refusal-one x y a b q) (block-one x y a b q) ∙ sym e) (f .next ∙ sym (g .next)) (f .empty) (g .empty)
+    where
+      refused : {x y : Refusal} {a b : ℕ} → x ≡ y → a ≡ b → Refused x a ≡ Refused y b
+      refused p q = cc
+
+  -- at most one step
+  pub step-one : (s t : Step) → StepSays image place s → StepSays image place t → s ≡ t
+  step-one s t f g = finds-one s t (s .found) (t .found) refl refl f g
+
+  -- the end repeats
+  pub end-again : (s t : Step) → s .found ≡ End → StepSays image place s → StepSays image (s .next) t → t ≡ s
+  end-again s t e f g = step-one t s (subst (λ (n : ℕ). StepSays image n t) (subst (StepFinds image place s) e f .next) g) f
+
+  -- and so does a refusal
+  pub refusal-again : (s t : Step) (x : Refusal) (b : ℕ) → s .found ≡ Refused x b → StepSays image place s → StepSays image (s .next) t → t ≡ s
+  refusal-again s t x b e f g = step-one t s (subst (λ (n : ℕ). StepSays image n t) (subst (StepFinds image place s) e f .next) g) f
+
+-- a reader is its image and its place
+pub reader-one : (r s : Reader) (image : RefT (List ℕ)) (place : ℕ) → (r .image ≡ image) × (r .place ≡ place) → (s .image ≡ image) × (s .place ≡ place) → r ≡ s
+reader-one r s image place f g = λ i. record { image = (f .0 ∙ sym (g .0)) i; place = (f .1 ∙ sym (g .1)) i }
+
+-- ---- verdicts
+module _ (r : Run) (image : List ℕ) where
+  code-in : (i c : ℕ) (h : CodeOf r image i c) → PieceIn (blockAt image (suc i)) (h .piece)
+  code-in i c h = subst (λ (l : List ℕ). PieceIn l (h .piece)) (sym (h .block)) (good-in (h .piece) (h .good))
+
+  pub code-one : (i c d : ℕ) → CodeOf r image i c → CodeOf r image i d → c ≡ d
+  code-one i c d h g =
+      let e = piece-one (blockAt image (suc i)) (h .piece) (g .piece) (code-in i c h) (code-in i d g) in
+      answer-one c d (one-verdict r (g .piece) (answer c) (answer d) (subst (λ (k : Piece). Verdict r k (answer c)) e (h .verdict)) (g .verdict))
+
+  list-one : (before a b : List ℕ) (m n : ℕ) → Filled r image before a m → Filled r image before b n → a ≡ b
+  list-one before a b m n f g =
+      ext-getD 0 a b (f .size ∙ sym (g .size))
+      (λ i l. ⊎-elim
+      (λ (h : count image ≤ i). f .rest i h ∙ sym (g .rest i h))
+      (λ (h : i < count image). code-one i (getD a i 0) (getD b i 0) (f .verdicts i h) (g .verdicts i h))
+      (ℕ-or (count image) i))
+
+  -- at most one answer, and one later content of the list
+  pub verdicts-one : (before a b : List ℕ) (x y : Counted) → VerdictsSay r image before a x → VerdictsSay r image before b y → (x ≡ y) × (a ≡ b)
+  verdicts-one before a b (Count m) (Count n) f g = (ap Count (f .pieces ∙ sym (g .pieces)), list-one before a b m n f g)
+  verdicts-one before a b (Count m) (NoCount y n) f g = absurd (never-both (verdictsChecks r image before) (sharp-verdicts r image before) (saidIn y n) (f .passes) (g .0))
+  verdicts-one before a b (NoCount x m) (Count n) f g = absurd (never-both (verdictsChecks r image before) (sharp-verdicts r image before) (saidIn x m) (g .passes) (f .0))
+  verdicts-one before a b (NoCount x m) (NoCount y n) f g =
+      let q = one-fault (verdictsChecks r image before) (sharp-verdicts r image before) (saidIn x m) (saidIn y n) (f .0) (g .0) in
+      (refused (refusal-one x y m n q) (block-one x y m n q), f .1 ∙ sym (g .1))
+    where
+      refused : {x y : Refusal} {a b : ℕ} → x ≡ y → a ≡ b → NoCount x a ≡ NoCount y b
+      refused p q = cc

@@ -1,0 +1,44 @@
+-- What the pass over a room finds: a code for each piece, or the first refusal; and what storing codes does. Assumes nothing.
+use mathlib.Core.Path.{_≡_}
+use mathlib.Core.List.{List}
+use Prim.Native.Nat.{ℕ, suc, _≤_, _<_}
+use lib.ListN.{length, getD}
+use Rattle.rules.specs.Reach.{Run}
+use Rattle.rules.specs.Refusal.{Passes, Fault}
+use Rattle.refusal.specs.Said.{said}
+use Rattle.block.specs.Reading.{pieceBlockChecks}
+use Rattle.room.specs.declared.Counted.{Counted}
+use Rattle.room.specs.declared.Counted.the-variants.{Count, Refused}
+use Rattle.room.specs.declared.pass.Coded.{Coded}
+use Rattle.room.specs.declared.pass.Coded.the-variants.{Code, NoPiece}
+use Rattle.room.specs.declared.pass.Codes.{Codes}
+use Rattle.room.specs.Image.{blockAt, count, saidIn, roomChecks}
+use Rattle.room.specs.Verdicts.{CodeOf}
+
+-- piece i
+abbrev pub CodeFound : Run → List ℕ → ℕ → Coded → Type 0
+CodeFound r image i (Code c) = CodeOf r image i c
+CodeFound r image i (NoPiece x) = Fault (pieceBlockChecks (blockAt image (suc i))) (said x)
+
+-- the pieces below n have their codes
+abbrev pub CodesTo : Run → List ℕ → List ℕ → ℕ → Type 0
+CodesTo r image codes n = (i : ℕ) → i < n → CodeOf r image i (getD codes i 0)
+
+-- every piece
+pub record AllCoded (r : Run) (image codes : List ℕ) (n : ℕ) : Type 0 where
+  pub passes : Passes (roomChecks image)
+  pub pieces : n ≡ count image
+  pub coded : CodesTo r image codes (count image)
+
+abbrev pub CodesFound : Run → List ℕ → List ℕ → Counted → Type 0
+CodesFound r image codes (Count n) = AllCoded r image codes n
+CodesFound r image codes (Refused x b) = Fault (roomChecks image) (saidIn x b)
+
+abbrev pub CodesSay : Run → List ℕ → Codes → Type 0
+CodesSay r image c = CodesFound r image (c .codes) (c .found)
+
+-- the first n elements are the codes, later ones unchanged
+pub record Stored (codes : List ℕ) (n : ℕ) (before after : List ℕ) : Type 0 where
+  pub size : length after ≡ length before
+  pub first : (i : ℕ) → i < n → getD after i 0 ≡ getD codes i 0
+  pub rest : (i : ℕ) → n ≤ i → getD after i 0 ≡ getD before i 0

@@ -1,0 +1,50 @@
+-- A step of a reader: it depends on the image and the place alone. Assumes nothing.
+use mathlib.Core.Path.{_≡_}
+use mathlib.Core.List.{List}
+use Prim.Native.Nat.{ℕ, suc, _≤_, _<_}
+use Rattle.rules.specs.Refusal as rules
+use Rattle.rules.specs.Refusal.{Passes, Fault}
+use Rattle.block.specs.Reading.{pieceBlockChecks, Holds, PieceGood, nothing}
+use Rattle.block.specs.declared.PieceRead.{PieceRead}
+use Rattle.refusal.specs.declared.Checked.the-variants.{Good}
+use Rattle.room.specs.declared.Found.{Found}
+use Rattle.room.specs.declared.Found.the-variants.{Piece, End, Refused}
+use Rattle.room.specs.declared.Step.{Step}
+use Rattle.room.specs.Image.{blockAt, count, inBlock, saidIn, headChecks}
+
+-- the piece of a step, as a block's reading gives it
+abbrev pub pieceRead : Step → PieceRead
+pieceRead s = record { found = Good; band = s .band; corners = s .corners; count = s .count }
+
+-- the next good piece, and the place after it
+pub record Gives (image : List ℕ) (place : ℕ) (s : Step) : Type 0 where
+  pub head : Passes (headChecks image)
+  pub below : place < count image
+  pub good : PieceGood (blockAt image (suc place)) (pieceRead s)
+  pub next : s .next ≡ suc place
+
+-- the end, again and again
+pub record Ends (image : List ℕ) (place : ℕ) (s : Step) : Type 0 where
+  pub head : Passes (headChecks image)
+  pub past : count image ≤ place
+  pub empty : Holds (pieceRead s) nothing
+  pub next : s .next ≡ place
+
+-- a fault of the length, the header or that block
+pub data StepFault (image : List ℕ) (place : ℕ) (x : rules.Refusal) : Type 0 where
+  head : Fault (headChecks image) x → StepFault image place x
+  block : Passes (headChecks image) → place < count image → (r : rules.Refusal) → Fault (pieceBlockChecks (blockAt image (suc place))) r → x ≡ inBlock (suc place) r → StepFault image place x
+
+-- the refusal, again and again
+pub record Stops (image : List ℕ) (place : ℕ) (x : rules.Refusal) (s : Step) : Type 0 where
+  pub fault : StepFault image place x
+  pub empty : Holds (pieceRead s) nothing
+  pub next : s .next ≡ place
+
+abbrev pub StepFinds : List ℕ → ℕ → Step → Found → Type 0
+StepFinds image place s Piece = Gives image place s
+StepFinds image place s End = Ends image place s
+StepFinds image place s (Refused x n) = Stops image place (saidIn x n) s
+
+abbrev pub StepSays : List ℕ → ℕ → Step → Type 0
+StepSays image place s = StepFinds image place s (s .found)
