@@ -1,0 +1,74 @@
+-- What the run and the room were found to be decides which text answers. Assumes nothing.
+use mathlib.Core.Path.{_≡_, sym, ap, _∙_, subst}
+use mathlib.Core.Logic.{_⊎_, inl, inr, ⊎-elim}
+use mathlib.Core.List.{List, [], _∷_, _++_}
+use Prim.Native.Nat.{ℕ, _+_, _-_, _≤_}
+use native.Mathlib.Omega.{arith}
+use lib.ListN.{length, take, drop, length-take, length-drop}
+use lib.Seq.{getD-take, take-all}
+use Rattle.rules.specs.Reach.{Run, Pieces}
+use Rattle.rules.specs.Refusal.{Refusal, Check, Passes, Fault, demand, refuse}
+use Rattle.rules.specs.Good.{runChecks}
+use Rattle.rules.proofs.Checks.{AllSharp, passes-left, passes-right}
+use Rattle.rules.proofs.Good.{sharp-run}
+use Rattle.block.specs.Layout.{byte}
+use Rattle.block.specs.Reading.{blockChecks, headerBytes, headerChecks}
+use Rattle.room.specs.Image.{blockAt, count, inBlock, headChecks, roomChecks}
+use Rattle.room.specs.Verdicts.{verdictsChecks, Filled}
+use Rattle.shade.specs.Put.{Puts}
+use Rattle.shade.specs.Text.{page, lengthChecks, roomPart, Page}
+
+-- ---- checks in a row
+-- where the first pass, the fault is among the others
+pub fault-beyond : (cs ds : List Check) → AllSharp cs → (x : Refusal) → Passes cs → Fault (cs ++ ds) x → Fault ds x
+fault-beyond [] ds a x p f = f
+fault-beyond (c ∷ cs) ds a x p f = ⊎-elim (λ h. absurd (a .0 .never x (p .0) h)) (λ h. fault-beyond cs ds (a .1) x (p .1) (h .1)) f
+
+-- where the others find none, the fault is among the first
+pub fault-within : (cs ds : List Check) (x : Refusal) → (Passes cs → Fault ds x → ⊥) → Fault (cs ++ ds) x → Fault cs x
+fault-within [] ds x n f = n tt f
+fault-within (c ∷ cs) ds x n f = ⊎-elim (λ h. inl h) (λ h. inr (h .0, fault-within cs ds x (λ p g. n (h .0, p) g) (h .1))) f
+
+-- a wrong length is refused by itself
+pub alone : (input : List ℕ) (x : Refusal) → Fault (lengthChecks input) x → inBlock 0 x ≡ x
+unfolding lengthChecks
+alone input x f = ⊎-elim (λ h. ap (λ y. inBlock 0 y) (h .1) ∙ sym (h .1)) (λ h. absurd (h .1)) f
+
+-- ---- a good room has at most 126 pieces
+head-byte : (image : List ℕ) → byte (blockAt image 0) 5 ≡ count image
+unfolding blockAt
+head-byte image = getD-take 512 image 5 0 (omega arith)
+
+pub few-pieces : (image : List ℕ) → Passes (roomChecks image) → Pieces (count image)
+unfolding roomChecks headChecks headerChecks blockChecks headerBytes
+few-pieces image p = subst (λ n. n ≤ 126) (head-byte image) (p .1 .1 .1 .1 .1 .0)
+
+-- the part after the run block
+pub rest : (input : List ℕ) → take (length input - 512) (drop 512 input) ≡ roomPart input
+rest input = take-all (length input - 512) (drop 512 input) (omega (arith, length-drop 512 input))
+
+-- ---- the verdicts of a good run into a list for 126: the list is never too short
+pub room-fault : (r : Run) (image list : List ℕ) → Passes (runChecks r) → 126 ≤ length list → (x : Refusal) → Fault (verdictsChecks r image list) x → Fault (roomChecks image) x
+unfolding verdictsChecks
+room-fault r image list good long x f =
+    let short = demand (count image ≤ length list) (refuse 10 0 0) ∷ [] in
+    fault-within (roomChecks image) short x (λ p g. ⊎-elim (λ h. h .0 (omega (arith, few-pieces image p))) (λ h. h .1) g)
+    (fault-beyond (runChecks r) (roomChecks image ++ short) (sharp-run r) x good f)
+
+module _ (r : Run) (image list after : List ℕ) (n : ℕ) (f : Filled r image list after n) where
+  room-passes : Passes (roomChecks image)
+  unfolding verdictsChecks
+  room-passes = passes-left (roomChecks image) _ (passes-right (runChecks r) _ (f .passes))
+
+  pub few : n ≤ 126
+  few = omega (arith, f .pieces, few-pieces image room-passes)
+
+pub printed : (r : Run) (input list after : List ℕ) (n : ℕ) → Filled r (roomPart input) list after n → Page r input (page after n)
+printed r input list after n f = record { room = room-passes r (roomPart input) list after n f; codes = after; each = f .verdicts; text = ap (page after) (f .pieces) }
+
+-- ---- what is put at the begin is within the buffer
+pub put-length : {before text after : List ℕ} {n : ℕ} → Puts before 0 text after n → n ≡ length (take n after)
+put-length {before} {text} {after} {n} p = let e = ap length (p .first) in omega (arith, p .end)
+
+pub put-within : {before text after : List ℕ} {n : ℕ} → Puts before 0 text after n → n ≤ length after
+put-within {before} {text} {after} {n} p = omega (arith, put-length p, length-take n after)

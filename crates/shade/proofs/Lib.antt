@@ -1,0 +1,5 @@
+pub mod Put
+pub mod Digits
+pub mod Found
+pub mod Unique
+pub mod Example

@@ -1,0 +1,144 @@
+// The lines that the program prints.
+use crate::text::put_field;
+use crate::text::put_number;
+use crate::text::put_word;
+use refusal::Refusal;
+ghost use mathlib.Core.Path.{_≡_};
+ghost use Prim.Native.Nat.{_+_, _*_, _≤_};
+ghost use lib.ListN.{length};
+ghost use Rattle.refusal.specs.Said.{said};
+ghost use Rattle.room.specs.Image.{saidIn};
+ghost use Rattle.shade.specs.Text.{answered, runLine, roomLine, pieceLine, pieceLines, page};
+ghost use Rattle.shade.specs.Put.{Puts};
+
+// Clear, as a verdict is coded.
+const CLEAR: u32 = 0xFFFF_FFFF;
+
+// A refusal's number, and its two places.
+fn number_of(x: Refusal) -> usize
+    ensures { λ r. ⌜ r ≡ said x .number ⌝ }
+{
+    match x {
+        Refusal::Length => 1,
+        Refusal::Check => 2,
+        Refusal::Kind(_) => 3,
+        Refusal::Reach(_) => 4,
+        Refusal::Corners => 5,
+        Refusal::Same(_) => 6,
+        Refusal::Fold(_) => 7,
+        Refusal::Meet(_, _) => 8,
+        Refusal::Clockwise => 9,
+        Refusal::Short => 10,
+        Refusal::NotNumber(_, _) => 11,
+        Refusal::Beyond(_, _) => 12,
+        Refusal::OffGrid(_, _) => 13,
+    }
+}
+
+fn first_place(x: Refusal) -> usize
+    ensures { λ r. ⌜ r ≡ said x .a ⌝ }
+{
+    match x {
+        Refusal::Length => 0,
+        Refusal::Check => 0,
+        Refusal::Kind(a) => a,
+        Refusal::Reach(a) => a,
+        Refusal::Corners => 0,
+        Refusal::Same(a) => a,
+        Refusal::Fold(a) => a,
+        Refusal::Meet(a, _) => a,
+        Refusal::Clockwise => 0,
+        Refusal::Short => 0,
+        Refusal::NotNumber(a, _) => a,
+        Refusal::Beyond(a, _) => a,
+        Refusal::OffGrid(a, _) => a,
+    }
+}
+
+fn second_place(x: Refusal) -> usize
+    ensures { λ r. ⌜ r ≡ said x .b ⌝ }
+{
+    match x {
+        Refusal::Length => 0,
+        Refusal::Check => 0,
+        Refusal::Kind(_) => 0,
+        Refusal::Reach(_) => 0,
+        Refusal::Corners => 0,
+        Refusal::Same(_) => 0,
+        Refusal::Fold(_) => 0,
+        Refusal::Meet(_, b) => b,
+        Refusal::Clockwise => 0,
+        Refusal::Short => 0,
+        Refusal::NotNumber(_, b) => b,
+        Refusal::Beyond(_, b) => b,
+        Refusal::OffGrid(_, b) => b,
+    }
+}
+
+// A refused run.
+pub(crate) fn run_line(out: &mut [u8], x: Refusal) -> usize
+    requires { ⌜ 128 ≤ length (now out) ⌝ }
+    ensures { λ r. ⌜ Puts (now (out .entry)) 0 (runLine (said x)) (now (out .exit)) r ⌝ }
+{
+    let next = put_field(out, 0, b"refused run ", number_of(x));
+    put_word(out, next, b"\n")
+}
+
+// A refused room, or a wrong length.
+pub(crate) fn room_line(out: &mut [u8], x: Refusal, block: usize) -> usize
+    requires { ⌜ 128 ≤ length (now out) ⌝ }
+    ensures { λ r. ⌜ Puts (now (out .entry)) 0 (roomLine (saidIn x block)) (now (out .exit)) r ⌝ }
+{
+    let number = put_field(out, 0, b"refused ", number_of(x));
+    let place = put_field(out, number, b" block ", block);
+    let first = put_field(out, place, b" at ", first_place(x));
+    let second = put_field(out, first, b" ", second_place(x));
+    put_word(out, second, b"\n")
+}
+
+// A piece's answer, and the mark where blocked.
+fn put_answer(out: &mut [u8], at: usize, code: u32) -> usize
+    requires { ⌜ at + 29 ≤ length (now out) ⌝ }
+    ensures { λ r. ⌜ Puts (now (out .entry)) at (answered code) (now (out .exit)) r ⌝ }
+    ensures { λ r. ⌜ r ≤ at + 29 ⌝ }
+{
+    if code == CLEAR {
+        put_word(out, at, b" clear")
+    } else {
+        put_field(out, at, b" blocked ", code as usize)
+    }
+}
+
+fn piece_line(out: &mut [u8], at: usize, i: usize, code: u32) -> usize
+    requires { ⌜ at + 50 ≤ length (now out) ⌝ }
+    ensures { λ r. ⌜ Puts (now (out .entry)) at (pieceLine i code) (now (out .exit)) r ⌝ }
+    ensures { λ r. ⌜ r ≤ at + 50 ⌝ }
+{
+    let answer = put_number(out, at, i);
+    let end = put_answer(out, answer, code);
+    put_word(out, end, b"\n")
+}
+
+// The lines of the first n pieces.
+fn piece_lines(out: &mut [u8], at: usize, codes: &[u32], n: usize) -> usize
+    requires { ⌜ (at + 50 * n ≤ length (now out)) × (n ≤ length (now codes)) ⌝ }
+    ensures { λ r. ⌜ Puts (now (out .entry)) at (pieceLines (now (codes .entry)) n) (now (out .exit)) r ⌝ }
+{
+    let mut next = at;
+    let mut i = 0;
+    while i < n {
+        next = piece_line(out, next, i, codes[i]);
+        i += 1;
+    }
+    next
+}
+
+// The piece count, and a line for each piece.
+pub(crate) fn put_page(out: &mut [u8], codes: &[u32], n: usize) -> usize
+    requires { ⌜ (28 + 50 * n ≤ length (now out)) × (n ≤ length (now codes)) ⌝ }
+    ensures { λ r. ⌜ Puts (now (out .entry)) 0 (page (now (codes .entry)) n) (now (out .exit)) r ⌝ }
+{
+    let count = put_field(out, 0, b"pieces ", n);
+    let lines = put_word(out, count, b"\n");
+    piece_lines(out, lines, codes, n)
+}
