@@ -1,0 +1,7 @@
+pub mod Question
+pub mod Slots
+pub mod Kept
+pub mod Lay
+pub mod Look
+pub mod Found
+pub mod Unique

@@ -1,0 +1,57 @@
+-- Nothing else could be answered, and nothing else left in the book. Assumes nothing.
+use mathlib.Core.Path.{_≡_, refl, sym, ap, subst, _∙_}
+use mathlib.Core.List.{List}
+use Prim.Native.Nat.{ℕ}
+use Rattle.rules.specs.Reach.{Run, Piece}
+use Rattle.rules.specs.Refusal.{Passes}
+use Rattle.rules.specs.Verdict.{Verdict}
+use Rattle.rules.proofs.Checks.{AllSharp, sharp-demand, never-both, one-fault}
+use Rattle.rules.proofs.Good.{sharp-verdict}
+use Rattle.rules.proofs.Verdict.{one-verdict}
+use Rattle.refusal.specs.Said.{said}
+use Rattle.refusal.proofs.Unique.{said-one}
+use Rattle.decide.specs.Touch.{answer}
+use Rattle.decide.proofs.Answer.{answer-one}
+use Rattle.book.specs.declared.Asked.{Asked}
+use Rattle.book.specs.declared.Asked.the-variants.{Remembered, Worked, Refused}
+use Rattle.book.specs.Entry.{slotAt, home, Hit}
+use Rattle.book.specs.Ask.{askChecks, AskSays}
+use Rattle.book.proofs.Question.{entry-question, entry-code, question-run, question-piece}
+use Rattle.book.proofs.Kept.{run-of, piece-of}
+
+sharp-ask : (book : List ℕ) (r : Run) (k : Piece) → AllSharp (askChecks book r k)
+unfolding askChecks
+sharp-ask book r k = (sharp-demand _ _, sharp-verdict r k)
+
+-- two questions never answer for each other, though they share slot and sum
+pub never-mixed : (book : List ℕ) (r s : Run) (k m : Piece) (c d : ℕ) → Passes (askChecks book r k) → Passes (askChecks book s m) → home book r k ≡ home book s m → Hit book r k c → Hit book s m d → (r ≡ s) × (k ≡ m)
+never-mixed book r s k m c d p q e h g =
+    let x = entry-question r s k m c d (piece-of book r k p) (piece-of book s m q) (sym (h .same) ∙ ap (λ i. slotAt book i) e ∙ g .same) in
+    (question-run r s k m (run-of book r k p) (run-of book s m q) (piece-of book r k p) (piece-of book s m q) x, question-piece r s k m (run-of book r k p) (run-of book s m q) (piece-of book r k p) (piece-of book s m q) x)
+
+hit-one : (book : List ℕ) (r : Run) (k : Piece) (c d : ℕ) → Passes (askChecks book r k) → Hit book r k c → Hit book r k d → c ≡ d
+hit-one book r k c d p h g = entry-code r r k k c d (piece-of book r k p) (piece-of book r k p) (h .fits) (g .fits) (sym (h .same) ∙ g .same)
+
+worked-one : (r : Run) (k : Piece) (c d : ℕ) → Verdict r k (answer c) → Verdict r k (answer d) → c ≡ d
+worked-one r k c d h g = answer-one c d (one-verdict r k (answer c) (answer d) h g)
+
+-- the answer
+pub one-answer : (book after later : List ℕ) (r : Run) (k : Piece) (a b : Asked) → AskSays book after r k a → AskSays book later r k b → a ≡ b
+one-answer book after later r k (Remembered c) (Remembered d) h g = ap Remembered (hit-one book r k c d (h .passes) (h .hit) (g .hit))
+one-answer book after later r k (Remembered c) (Worked d) h g = absurd (g .miss c (h .hit))
+one-answer book after later r k (Worked c) (Remembered d) h g = absurd (h .miss d (g .hit))
+one-answer book after later r k (Worked c) (Worked d) h g = ap Worked (worked-one r k c d (h .verdict) (g .verdict))
+one-answer book after later r k (Refused x) (Refused y) h g = ap Refused (said-one x y (one-fault (askChecks book r k) (sharp-ask book r k) (said x) (said y) (h .0) (g .0)))
+one-answer book after later r k (Remembered c) (Refused y) h g = absurd (never-both (askChecks book r k) (sharp-ask book r k) (said y) (h .passes) (g .0))
+one-answer book after later r k (Worked c) (Refused y) h g = absurd (never-both (askChecks book r k) (sharp-ask book r k) (said y) (h .passes) (g .0))
+one-answer book after later r k (Refused x) (Remembered d) h g = absurd (never-both (askChecks book r k) (sharp-ask book r k) (said x) (g .passes) (h .0))
+one-answer book after later r k (Refused x) (Worked d) h g = absurd (never-both (askChecks book r k) (sharp-ask book r k) (said x) (g .passes) (h .0))
+
+-- what an answer leaves
+left : (book after later : List ℕ) (r : Run) (k : Piece) (a : Asked) → AskSays book after r k a → AskSays book later r k a → after ≡ later
+left book after later r k (Remembered c) h g = h .same ∙ sym (g .same)
+left book after later r k (Worked c) h g = h .stored ∙ sym (g .stored)
+left book after later r k (Refused x) h g = h .1 ∙ sym (g .1)
+
+pub one-book : (book after later : List ℕ) (r : Run) (k : Piece) (a b : Asked) → AskSays book after r k a → AskSays book later r k b → after ≡ later
+one-book book after later r k a b h g = left book after later r k b (subst (λ (q : Asked). AskSays book after r k q) (one-answer book after later r k a b h g) h) g
