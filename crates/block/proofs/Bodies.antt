@@ -1,13 +1,13 @@
 -- The bodies of runs and pieces in their blocks, for an entry that is made of them. Assumes nothing.
-use mathlib.Core.Path.{_≡_, refl, sym, ap, _∙_}
-use mathlib.Core.List.{List, [], _∷_, _++_}
+use mathlib.Core.Path.{_≡_, refl, _∙_}
+use mathlib.Core.List.{List, _∷_, _++_}
 use Prim.Native.Nat.{ℕ, _≤_}
 use native.Mathlib.Omega.{arith}
-use lib.ListN.{length, take, drop, replicate, length-append}
+use lib.ListN.{length, take, drop, length-append}
 use lib.Seq.{take-append-le, take-at}
 use Rattle.rules.specs.Reach.{Run, Piece}
 use Rattle.rules.specs.Ring.{ring}
-use Rattle.block.specs.Layout.{words, filled, blockOf, runNumbers, runBody, runBlock, pieceNumbers, pieceBody, pieceBlock}
+use Rattle.block.specs.Layout.{words, filled, blockOf, runBody, runBlock, pieceNumbers, pieceBody, pieceBlock}
 use Rattle.block.proofs.Bytes.{filled-length}
 use Rattle.block.proofs.Words.{words-length}
 

@@ -12,7 +12,7 @@ use Rattle.block.specs.Layout.{byte, sum, plainSum, weighedSum, filled, 
 use Rattle.block.specs.Reading.{Sealed}
 
 -- ---- zeros after the first bytes
-zeros-at : (n i : ℕ) → byte (replicate n 0) i ≡ 0
+pub zeros-at : (n i : ℕ) → byte (replicate n 0) i ≡ 0
 zeros-at zero i = refl
 zeros-at (suc n) zero = refl
 zeros-at (suc n) (suc i) = zeros-at n i

@@ -7,7 +7,7 @@ use lib.ListN.{length, getD, List·getD-append}
 use Rattle.rules.specs.Reach.{Pieces}
 use Rattle.rules.specs.Refusal.{Passes}
 use Rattle.rules.proofs.Checks.{passes-append, passes-left, passes-right}
-use Rattle.block.specs.Layout.{byte, name, blockOf, headerBlock}
+use Rattle.block.specs.Layout.{byte, name, headerBlock}
 use Rattle.block.specs.Reading.{Sealed, blockChecks, headerBytes, headerChecks}
 use Rattle.block.proofs.Bytes.{Alike, block-length, block-at, block-sealed, block-is}
 use Rattle.block.proofs.Face.{stable, unnamed-front}

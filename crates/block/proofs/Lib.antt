@@ -10,3 +10,4 @@ pub mod RunLaws
 pub mod Sharp
 pub mod Unique
 pub mod Words
+pub mod Zero

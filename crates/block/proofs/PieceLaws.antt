@@ -2,7 +2,7 @@
 use mathlib.Core.Path.{_≡_, refl, sym, ap, subst, _∙_}
 use mathlib.Core.Logic.{_⊎_, ⊎-elim}
 use mathlib.Core.List.{List, [], _∷_, _++_}
-use Prim.Native.Nat.{ℕ, zero, suc, _+_, _*_, _-_, _/_, _%_, _≤_, _<_}
+use Prim.Native.Nat.{ℕ, zero, suc, _+_, _*_, _-_, _≤_, _<_}
 use native.Mathlib.Omega.{arith}
 use lib.IntN.{ℤ, pos}
 use lib.ListN.{length, getD, take, drop, replicate, length-replicate, length-drop, take-append-drop, List·getD-eq-default}
@@ -25,7 +25,7 @@ use Rattle.piece.specs.declared.Band.{Band}
 use Rattle.piece.specs.Numbers.{pieceOf}
 use Rattle.block.specs.declared.PieceRead.{PieceRead}
 use Rattle.block.specs.Layout.{byte, word, words, filled, blockOf, pieceNumbers, pieceBody, pieceBlock}
-use Rattle.block.specs.Reading.{Half, PieceIn, inside, Sealed, blockChecks, pieceBytes, pieceBlockChecks, Holds, nothing, PieceFound, PieceSays}
+use Rattle.block.specs.Reading.{Half, PieceIn, inside, blockChecks, pieceBytes, pieceBlockChecks, Holds, nothing, PieceFound, PieceSays}
 use Rattle.block.specs.Scan.{BandAt, CornersAt}
 use Rattle.block.specs.Word.{Word}
 use Rattle.block.proofs.Bytes.{filled-at, filled-length, block-length, block-at, block-sealed, block-same}

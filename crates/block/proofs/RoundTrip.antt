@@ -1,18 +1,16 @@
 -- There and back: what a writer made reads back as it, and what a reader accepted is what the writer makes of it. Assumes nothing.
 use mathlib.Core.Path.{_≡_, refl, sym, ap, subst, _∙_}
 use mathlib.Core.List.{List, _++_}
-use Prim.Native.Nat.{ℕ, _+_, _*_, _-_, _≤_}
-use native.Mathlib.Omega.{arith}
+use Prim.Native.Nat.{ℕ, _+_, _*_, _-_}
 use lib.IntN.{ℤ, pos}
 use lib.ListN.{length, take, replicate}
 use lib.Seq.{take-at}
-use Rattle.rules.specs.Reach.{Pieces, Piece}
+use Rattle.rules.specs.Reach.{Piece}
 use Rattle.rules.specs.Ring.{ring}
-use Rattle.rules.specs.Refusal.{Check, Passes}
-use Rattle.rules.specs.Good.{runChecks, pieceChecks}
-use Rattle.rules.proofs.Checks.{AllSharp}
+use Rattle.rules.specs.Refusal.{Passes}
+use Rattle.rules.specs.Good.{pieceChecks}
 use Rattle.refusal.specs.declared.Checked.{Checked}
-use Rattle.refusal.specs.declared.Checked.the-variants.{Good, Refused}
+use Rattle.refusal.specs.declared.Checked.the-variants.{Good}
 use Rattle.piece.specs.declared.Run.{Run}
 use Rattle.piece.specs.declared.Band.{Band}
 use Rattle.piece.specs.Numbers.{runOf, pieceOf}
@@ -22,8 +20,8 @@ use Rattle.block.specs.declared.RunRead.{RunRead}
 use Rattle.block.specs.declared.RunRead.the-variants.{Found}
 use Rattle.block.specs.declared.PieceRead.{PieceRead}
 use Rattle.block.specs.Layout.{headerBlock, runBlock, pieceBlock}
-use Rattle.block.specs.Reading.{headerAsked, runAsked, pieceAsked, HeaderSays, RunSays, Holds, PieceGood, PieceFound, PieceSays, Writes}
-use Rattle.block.proofs.PieceLaws.{sized-length, sized-most, good-sized}
+use Rattle.block.specs.Reading.{headerAsked, runAsked, pieceAsked, HeaderSays, RunSays, PieceGood, PieceFound, PieceSays, Writes}
+use Rattle.block.proofs.PieceLaws.{sized-length, good-sized}
 use Rattle.block.proofs.Unique.{write-header-one, write-run-one, write-piece-one, read-header-one, read-run-one, read-piece-one}
 
 -- ---- header

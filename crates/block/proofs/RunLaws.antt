@@ -1,11 +1,11 @@
 -- A run and its block: what a block holds, and that the block of a good run passes. Assumes nothing.
-use mathlib.Core.Path.{_≡_, refl, sym, ap, _∙_}
+use mathlib.Core.Path.{_≡_, refl, sym, _∙_}
 use mathlib.Core.List.{List, [], _∷_, _++_}
 use Prim.Native.Nat.{ℕ, zero, suc, _+_, _*_, _≤_, _<_}
 use native.Mathlib.Omega.{arith}
 use lib.Dec.{le→leb}
 use lib.IntN.{ℤ, pos}
-use lib.ListN.{length, getD}
+use lib.ListN.{getD}
 use lib.Signed.{leZ-yes}
 use mir.Syntax.{w8, w32}
 use mir.Val.{Fits, SFits, toZ, ofZ}
@@ -17,8 +17,8 @@ use Rattle.rules.proofs.Reach.{run-known}
 use Rattle.rules.proofs.Checks.{passes-append, passes-left, passes-right}
 use Rattle.piece.specs.declared.Run as plain
 use Rattle.piece.specs.Numbers.{runOf}
-use Rattle.block.specs.Layout.{byte, word, words, blockOf, runNumbers, runBody, runBlock}
-use Rattle.block.specs.Reading.{Half, RunIn, inside, Sealed, blockChecks, runBytes, runBlockChecks}
+use Rattle.block.specs.Layout.{byte, word, words, runNumbers, runBody, runBlock}
+use Rattle.block.specs.Reading.{Half, RunIn, inside, blockChecks, runBytes, runBlockChecks}
 use Rattle.block.specs.Scan.{RunAt}
 use Rattle.block.specs.Word.{Word}
 use Rattle.block.proofs.Bytes.{block-length, block-at, block-sealed}

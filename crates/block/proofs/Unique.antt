@@ -1,18 +1,16 @@
 -- Two outcomes that both meet a public contract, answer and later bytes, are equal. Assumes nothing.
 use mathlib.Core.Path.{_≡_, refl, sym, ap, subst, _∙_}
-use mathlib.Core.List.{List, [], _∷_, _++_}
+use mathlib.Core.List.{List}
 use Prim.Native.Nat.{ℕ}
 use Rattle.rules.specs.Reach.{Piece}
 use Rattle.rules.specs.Refusal.{Check, Passes}
-use Rattle.rules.specs.Good.{runChecks, pieceChecks}
 use Rattle.rules.proofs.Checks.{AllSharp, never-both}
 use Rattle.refusal.specs.Said.{said, Finds}
 use Rattle.refusal.proofs.Unique.{finds-one}
 use Rattle.refusal.specs.declared.Checked.{Checked}
 use Rattle.refusal.specs.declared.Checked.the-variants.{Good, Refused}
 use Rattle.piece.specs.declared.Run.{Run}
-use Rattle.piece.specs.declared.Band.{Band}
-use Rattle.piece.specs.Numbers.{runOf, pieceOf}
+use Rattle.piece.specs.Numbers.{runOf}
 use Rattle.block.specs.declared.HeaderRead.{HeaderRead}
 use Rattle.block.specs.declared.HeaderRead.the-variants.{Count, NoHeader}
 use Rattle.block.specs.declared.RunRead.{RunRead}

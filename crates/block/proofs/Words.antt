@@ -15,7 +15,6 @@ use mir.Syntax.{w32}
 use mir.Val.{SFits, toZ, ofZ}
 use mir.Facts.{toZ-ofZ, toZ-pos}
 use Rattle.whole.proofs.Order.{ℕ-or}
-use Rattle.rules.specs.Reach.{Between}
 use Rattle.block.specs.Layout.{byte, word, words}
 use Rattle.block.specs.Reading.{Half}
 use Rattle.block.specs.Scan.{NumberAt}

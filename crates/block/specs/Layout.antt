@@ -48,20 +48,22 @@ name = 0x52 ∷ 0x4F ∷ 0x4F ∷ 0x4D ∷ []
 unfoldable pub headerBlock : ℕ → List ℕ
 headerBlock n = blockOf (name ++ (1 ∷ n ∷ []))
 
--- position, velocity and T: bytes 2 to 15 of a run block
+-- position, velocity and T
 abbrev pub runNumbers : Run → List ℤ
 runNumbers r = r .start .x ∷ r .start .y ∷ r .start .z ∷ r .speed .x ∷ r .speed .y ∷ r .speed .z ∷ pos (r .ticks) ∷ []
 
+-- bytes 2 to 15 of a run block
 unfoldable pub runBody : Run → List ℕ
 runBody r = words (runNumbers r)
 
 unfoldable pub runBlock : Run → List ℕ
 runBlock r = blockOf (2 ∷ 0 ∷ runBody r)
 
--- corner count, bottom, top, velocity and corners, with zeros for the corners that it lacks: bytes 1 to 267 of a piece block
+-- bottom, top, velocity and corners
 abbrev pub pieceNumbers : Piece → List ℤ
 pieceNumbers k = k .bottom ∷ k .top ∷ k .speed .x ∷ k .speed .y ∷ k .speed .z ∷ k .corners
 
+-- bytes 1 to 267 of a piece block: the corner count, the numbers, and zeros for the corners that it lacks
 unfoldable pub pieceBody : Piece → List ℕ
 pieceBody k = filled 267 (ring (k .corners) .size ∷ words (pieceNumbers k))
 

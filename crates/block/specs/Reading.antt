@@ -17,7 +17,7 @@ use Rattle.block.specs.declared.HeaderRead.the-variants.{Count, NoHeader
 use Rattle.block.specs.declared.RunRead.{RunRead}
 use Rattle.block.specs.declared.RunRead.the-variants.{Found, NoRun}
 use Rattle.block.specs.declared.PieceRead.{PieceRead}
-use Rattle.block.specs.Layout.{byte, plainSum, weighedSum, word, name, headerBlock, runNumbers, runBlock, pieceNumbers, pieceBlock}
+use Rattle.block.specs.Layout.{byte, plainSum, weighedSum, name, headerBlock, runNumbers, runBlock, pieceNumbers, pieceBlock}
 
 -- ---- the checks of a block's own bytes
 -- a block has 512 bytes

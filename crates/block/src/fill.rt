@@ -1,5 +1,5 @@
 // Bytes into a lent block.
-use crate::check::seal;
+use crate::sums::seal;
 use crate::word::bits_of;
 use crate::word::high;
 use crate::word::low;

@@ -1,12 +1,12 @@
 // The header of a room.
 use crate::HeaderRead;
-use crate::check::check_block;
 use crate::fill::put;
 use crate::scan::check_unnamed;
+use crate::sums::check_block;
 use refusal::Checked;
 use refusal::Refusal;
 ghost use mathlib.Core.Path.{_≡_};
-ghost use Prim.Native.Nat.{ℕ, _≤_, _<_};
+ghost use Prim.Native.Nat.{_≤_, _<_};
 ghost use lib.ListN.{length, getD};
 ghost use Rattle.refusal.specs.Said.{Finds};
 ghost use Rattle.block.specs.Layout.{name, headerBlock};

@@ -1,14 +1,13 @@
 // Blocks of 512 bytes: a header, a piece or a run as bytes, one block at a time.
 // specs/Layout.antt makes the bytes of each kind, specs/Reading.antt says what reading and writing answer.
-mod check;
 mod fill;
 mod header;
 mod pieces;
 mod runs;
 mod scan;
+mod sums;
 mod word;
 
-pub use check::check_block;
 pub use fill::write_bytes;
 pub use header::read_header;
 pub use header::write_header;
@@ -20,6 +19,7 @@ use refusal::Checked;
 use refusal::Refusal;
 pub use runs::read_run;
 pub use runs::write_run;
+pub use sums::check_block;
 
 // A header's piece count.
 pub enum HeaderRead {

@@ -1,19 +1,19 @@
 // A piece block.
 use crate::PieceRead;
-use crate::check::check_block;
 use crate::fill::front_of;
 use crate::fill::number_in;
 use crate::fill::put;
 use crate::scan::band_at;
 use crate::scan::check_unnamed;
 use crate::scan::corners_at;
+use crate::sums::check_block;
 use piece::Band;
 use piece::check_piece;
 use refusal::Checked;
 use refusal::Refusal;
 ghost use mathlib.Core.Path.{_≡_};
 ghost use mathlib.Core.List.{_++_};
-ghost use Prim.Native.Nat.{ℕ, _≤_};
+ghost use Prim.Native.Nat.{_≤_};
 ghost use lib.IntN.{pos};
 ghost use lib.ListN.{length, getD};
 ghost use Rattle.rules.specs.Ring.{ring};

@@ -1,10 +1,10 @@
 // A run block.
 use crate::RunRead;
-use crate::check::check_block;
 use crate::fill::front_of;
 use crate::fill::put;
 use crate::scan::check_unnamed;
 use crate::scan::run_at;
+use crate::sums::check_block;
 use piece::Run;
 use piece::check_run;
 use refusal::Checked;

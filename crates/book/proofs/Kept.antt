@@ -1,12 +1,12 @@
 -- Demand 3, remembered: in a book that began empty and was written only by asking, every hit is true. Assumes nothing.
 use mathlib.Core.Path.{_≡_, refl, sym, ap, subst, _∙_}
-use mathlib.Core.Logic.{_⊎_, inl, inr, ⊎-elim}
+use mathlib.Core.Logic.{⊎-elim}
 use mathlib.Core.List.{List, [], _∷_, _++_}
-use Prim.Native.Nat.{ℕ, zero, suc, _+_, _*_, _/_, _%_, _≤_, _<_}
+use Prim.Native.Nat.{ℕ, suc, _+_, _*_, _/_, _%_, _≤_, _<_}
 use native.Mathlib.Omega.{arith}
 use native.Mathlib.Nat.{mod-lt}
 use native.Mathlib.Decide.{ℕ-discrete}
-use lib.ListN.{length, getD, take, drop, replicate, length-append, getD-replicate, List·getD-eq-default, length-replicate}
+use lib.ListN.{length, getD, replicate, length-append, getD-replicate, List·getD-eq-default, length-replicate}
 use Rattle.whole.proofs.Order.{ℕ-or}
 use Rattle.rules.specs.Reach.{Run, Piece}
 use Rattle.rules.specs.Refusal.{Passes}
@@ -19,10 +19,10 @@ use Rattle.block.specs.Layout.{sum, byte, plainSum, weighedSum, blockOf, filled
 use Rattle.block.proofs.Bytes.{filled-length}
 use Rattle.book.specs.declared.Asked.{Asked}
 use Rattle.book.specs.declared.Asked.the-variants.{Remembered, Worked, Refused}
-use Rattle.book.specs.Entry.{Slots, slots, slotAt, question, home, four, entry, Hit, put}
-use Rattle.book.specs.Ask.{askChecks, Hits, Misses, AskSays, Kept, empty, asked}
+use Rattle.book.specs.Entry.{Slots, slots, slotAt, question, home, four, entry, Hit}
+use Rattle.book.specs.Ask.{askChecks, Misses, AskSays, Kept, empty, asked}
 use Rattle.book.proofs.Question.{question-length, question-run, question-piece, entry-question, entry-code}
-use Rattle.book.proofs.Slots.{slot-length, slot-byte, put-length, put-same, put-elsewhere}
+use Rattle.book.proofs.Slots.{slot-byte, put-length, put-same, put-elsewhere}
 
 -- ---- what the checks tell
 pub slots-of : (book : List ℕ) (r : Run) (k : Piece) → Passes (askChecks book r k) → Slots book

@@ -1,27 +1,26 @@
 -- When a slot is sound: its first bytes, its zeros, its code and its check, both ways. Assumes nothing.
-use mathlib.Core.Path.{_≡_, refl, sym, ap, subst, _∙_}
-use mathlib.Core.Logic.{_⊎_, inl, inr, ⊎-elim}
-use mathlib.Core.List.{List, [], _∷_, _++_}
+use mathlib.Core.Path.{_≡_, sym, ap, subst, _∙_}
+use mathlib.Core.Logic.{⊎-elim}
+use mathlib.Core.List.{List, _++_}
 use Prim.Native.Nat.{ℕ, zero, suc, _+_, _*_, _-_, _/_, _%_, _≤_, _<_}
 use native.Mathlib.Omega.{arith}
-use lib.ListN.{length, getD, take, drop, length-append, List·getD-append, List·getD-eq-default}
+use lib.ListN.{length, take, length-append, List·getD-append, List·getD-eq-default}
 use lib.Seq.{length-take-le, getD-take, getD-append-add}
 use mir.Syntax.{w8}
 use mir.Val.{Fits}
 use Rattle.whole.proofs.Order.{ℕ-or}
+use Rattle.rules.specs.Reach.{Run}
 use Rattle.rules.specs.Refusal.{Passes}
 use Rattle.rules.proofs.Checks.{never-both}
 use Rattle.refusal.specs.Said.{said}
 use Rattle.refusal.specs.declared.Checked.{Checked}
 use Rattle.refusal.specs.declared.Checked.the-variants.{Good, Refused}
-use Rattle.decide.specs.Touch.{NONE}
 use Rattle.block.specs.Layout.{byte, blockOf}
-use Rattle.block.specs.Reading.{Sealed, blockChecks, Writes, bytesAsked}
-use Rattle.block.specs.Scan.{FirstByte}
+use Rattle.block.specs.Reading.{blockChecks, Writes, bytesAsked}
 use Rattle.block.proofs.Bytes.{Alike, block-length, block-at, block-sealed, block-is}
 use Rattle.block.proofs.Sharp.{sharp-bytes-asked}
-use Rattle.book.specs.Entry.{four}
-use Rattle.book.specs.Steps.{FirstOther, Coded, Sound}
+use Rattle.book.specs.Entry.{four, Possible}
+use Rattle.book.specs.Steps.{Coded, Sound}
 
 -- ---- first bytes and a code
 module _ (front : List ℕ) (c : ℕ) (n : length front ≡ 287) where
@@ -61,7 +60,7 @@ module _ (a b c d n : ℕ) (fa : a < 256) (fb : b < 256) (fc : c < 256) (fd : d 
   code-fits = omega arith
 
 -- ---- a sound slot is known by its bytes
-module _ (slot front : List ℕ) (ticks c : ℕ) (n : length front ≡ 287) (s : Sound slot (take 283 front) ticks c) where
+module _ (slot front : List ℕ) (r : Run) (c : ℕ) (n : length front ≡ 287) (s : Sound slot (take 283 front) r c) where
   same-at : (i : ℕ) → i < 510 → byte slot i ≡ byte (take 283 front ++ four c) i
   same-at i h = ap (λ (l : List ℕ). byte l i) (s .same) ∙ block-at (take 283 front ++ four c) (omega (arith, few front c n)) i h
 
@@ -84,7 +83,7 @@ module _ (slot front : List ℕ) (ticks c : ℕ) (n : length front ≡ 287) (s :
       rw (s .same) (block-length (take 283 front ++ four c) f, (block-sealed (take 283 front ++ four c) f, tt))
 
 -- and bytes such as these are a sound slot's
-module _ (slot front : List ℕ) (ticks c : ℕ) (n : length front ≡ 287) (bytes : (i : ℕ) → Fits w8 (byte slot i)) (code : Coded slot c) where
+module _ (slot front : List ℕ) (r : Run) (c : ℕ) (n : length front ≡ 287) (bytes : (i : ℕ) → Fits w8 (byte slot i)) (code : Coded slot c) where
   code-is : (j : ℕ) → j < 4 → byte slot (283 + j) ≡ byte (four c) j
   code-is zero h = byte-0 (byte slot 283) (byte slot 284) (byte slot 285) (byte slot 286) c (bytes 283 .fits) (bytes 284 .fits) (bytes 285 .fits) (bytes 286 .fits) code
   code-is (suc zero) h = byte-1 (byte slot 283) (byte slot 284) (byte slot 285) (byte slot 286) c (bytes 283 .fits) (bytes 284 .fits) (bytes 285 .fits) (bytes 286 .fits) code
@@ -103,7 +102,7 @@ module _ (slot front : List ℕ) (ticks c : ℕ) (n : length front ≡ 287) (byt
     alike : Alike slot (take 283 front ++ four c)
     alike i h = ⊎-elim (λ (g : 287 ≤ i). rest i g h ∙ sym (at-rest front c n i g)) (λ (g : i < 287). named i g) (ℕ-or 287 i)
 
-    pub sound : Passes (blockChecks slot) → (c ≡ NONE) ⊎ (c ≤ 256 * ticks) → Sound slot (take 283 front) ticks c
+    pub sound : Passes (blockChecks slot) → Possible r c → Sound slot (take 283 front) r c
     unfolding blockChecks
     sound p q = record {
       fits = code-fits (byte slot 283) (byte slot 284) (byte slot 285) (byte slot 286) c (bytes 283 .fits) (bytes 284 .fits) (bytes 285 .fits) (bytes 286 .fits) code;

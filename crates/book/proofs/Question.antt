@@ -1,22 +1,17 @@
 -- The bytes of a question tell its run and its piece. Assumes nothing.
-use mathlib.Core.Path.{_≡_, refl, sym, ap, subst, _∙_}
-use mathlib.Core.Logic.{_⊎_, inl, inr, ⊎-elim}
+use mathlib.Core.Path.{_≡_, refl, sym, ap, _∙_}
 use mathlib.Core.List.{List, [], _∷_, _++_, append-assoc}
-use Prim.Native.Nat.{ℕ, zero, suc, _+_, _*_, _-_, _/_, _%_, _≤_, _<_}
+use Prim.Native.Nat.{ℕ, suc, _+_, _*_, _/_, _%_, _≤_, _<_}
 use native.Mathlib.Omega.{arith}
-use native.Mathlib.Nat.{div-add-mod'}
 use lib.Dec.{le→leb}
-use lib.IntN.{ℤ, pos, negsuc}
+use lib.IntN.{ℤ, pos}
 use lib.Signed.{_≤ℤ_}
-use lib.ListN.{length, getD, take, drop, replicate, length-append}
+use lib.ListN.{length, getD, take, drop, length-append}
 use lib.Seq.{take-at, drop-at}
-use Rattle.whole.proofs.Difference.{all3, ring}
 use Rattle.whole.proofs.Order.{le-trans}
 use Rattle.rules.specs.Reach.{Between, Reach, Speed, Run, Piece}
 use Rattle.rules.specs.Ring.{ring as corners}
-use Rattle.rules.specs.Refusal.{Passes}
-use Rattle.rules.specs.Good.{runChecks, pieceChecks}
-use Rattle.rules.proofs.Reach.{RunKnown, run-known, PieceKnown, piece-known}
+use Rattle.rules.proofs.Reach.{RunKnown, PieceKnown}
 use Rattle.block.specs.Layout.{word, words, filled, blockOf, runNumbers, runBody, pieceNumbers, pieceBody}
 use Rattle.block.specs.Reading.{Half}
 use Rattle.block.proofs.Words.{word-one, words-length}

@@ -1,6 +1,6 @@
 -- What asking a book answers, and what it leaves in it, for any bytes. Assumes nothing.
 use mathlib.Core.Path.{_≡_}
-use mathlib.Core.List.{List, [], _∷_, _++_}
+use mathlib.Core.List.{List, _∷_}
 use Prim.Native.Nat.{ℕ, _*_, _<_}
 use lib.ListN.{length, replicate}
 use Rattle.rules.specs.Reach.{Run, Piece}

@@ -1,8 +1,7 @@
 -- What the steps of asking lay out and find. Assumes nothing.
 use mathlib.Core.Path.{_≡_}
-use mathlib.Core.Logic.{_⊎_}
-use mathlib.Core.List.{List, [], _∷_, _++_}
-use Prim.Native.Nat.{ℕ, _+_, _*_, _≤_, _<_}
+use mathlib.Core.List.{List, _∷_, _++_}
+use Prim.Native.Nat.{ℕ, _+_, _*_, _<_}
 use lib.ListN.{length, take, drop}
 use Rattle.rules.specs.Reach.{Run, Piece}
 use Rattle.rules.specs.Refusal.{Check, Passes, Fault}
@@ -10,11 +9,10 @@ use Rattle.rules.specs.Verdict.{verdictChecks}
 use Rattle.refusal.specs.Said.{said}
 use Rattle.refusal.specs.declared.Checked.{Checked}
 use Rattle.refusal.specs.declared.Checked.the-variants.{Good, Refused}
-use Rattle.decide.specs.Touch.{NONE}
 use Rattle.block.specs.Layout.{byte, blockOf}
 use Rattle.book.specs.declared.slot.Found.{Found}
 use Rattle.book.specs.declared.slot.Found.the-variants.{Code, Nothing}
-use Rattle.book.specs.Entry.{question, four}
+use Rattle.book.specs.Entry.{question, four, Possible}
 
 -- where the checks pass, the bytes from here on are replaced
 abbrev pub Lays : List Check → ℕ → List ℕ → List ℕ → List ℕ → Checked → Type 0
@@ -39,12 +37,12 @@ pub record FirstOther (slot front : List ℕ) (r : ℕ) : Type 0 where
 abbrev pub Coded : List ℕ → ℕ → Type 0
 Coded slot c = c ≡ byte slot 283 + 256 * byte slot 284 + 65536 * byte slot 285 + 16777216 * byte slot 286
 
--- the slot is sound and remembers c after these first bytes
-pub record Sound (slot first : List ℕ) (ticks c : ℕ) : Type 0 where
+-- the slot is sound and remembers c of a run, after these first bytes
+pub record Sound (slot first : List ℕ) (r : Run) (c : ℕ) : Type 0 where
   pub fits : c < 4294967296
-  pub possible : (c ≡ NONE) ⊎ (c ≤ 256 * ticks)
+  pub possible : Possible r c
   pub same : slot ≡ blockOf (first ++ four c)
 
-abbrev pub Finds : List ℕ → List ℕ → ℕ → Found → Type 0
-Finds slot first ticks (Code c) = Sound slot first ticks c
-Finds slot first ticks Nothing = (c : ℕ) → Sound slot first ticks c → ⊥
+abbrev pub Recalls : List ℕ → List ℕ → Run → Found → Type 0
+Recalls slot first r (Code c) = Sound slot first r c
+Recalls slot first r Nothing = (c : ℕ) → Sound slot first r c → ⊥

@@ -13,11 +13,8 @@ use piece::Run;
 use piece::code;
 use refusal::Checked;
 use refusal::Refusal;
-ghost use mathlib.Core.Path.{_≡_};
 ghost use Rattle.rules.specs.Refusal.{Passes};
-ghost use Rattle.rules.specs.Verdict.{verdictChecks};
 ghost use Rattle.piece.specs.Numbers.{runOf, pieceOf};
-ghost use Rattle.book.specs.Entry.{Slots};
 ghost use Rattle.book.specs.Ask.{AskSays, askChecks};
 ghost use Rattle.book.specs.Steps.{Begun};
 
@@ -34,7 +31,7 @@ fn answer(book: &mut [u8], run: Run, band: Band, corners: &[i32], front: &mut [u
     ensures { λ r. ⌜ AskSays (now (book .entry)) (now (book .exit)) (runOf run) (pieceOf band (now (corners .entry))) r ⌝ }
 {
     let at = home_of(front, book.len() / 512);
-    match look(book, at, front, run.ticks) {
+    match look(book, at, front, run) {
         Found::Code(c) => Asked::Remembered(c),
         Found::Nothing => {
             let c = code(run, band, corners);

@@ -1,14 +1,17 @@
 // One slot of a book: what it remembers, and its bytes replaced.
 use block::check_block;
 use block::write_bytes;
+use piece::Run;
 use refusal::Checked;
 ghost use mathlib.Core.Path.{_≡_};
 ghost use Prim.Native.Nat.{suc, _+_, _*_, _≤_};
 ghost use lib.ListN.{length, take};
-ghost use Rattle.block.specs.Layout.{byte, blockOf};
+ghost use Rattle.rules.specs.Reach.{Ticks};
+ghost use Rattle.piece.specs.Numbers.{runOf};
+ghost use Rattle.block.specs.Layout.{blockOf};
 ghost use Rattle.block.specs.Scan.{FirstByte};
 ghost use Rattle.book.specs.Entry.{slotAt, put};
-ghost use Rattle.book.specs.Steps.{FirstOther, Finds, Coded};
+ghost use Rattle.book.specs.Steps.{FirstOther, Coded, Recalls};
 
 // Clear, as a verdict is coded.
 const NONE: u32 = 4294967295;
@@ -63,9 +66,9 @@ fn code_in(slot: &[u8]) -> u32
 }
 
 // Compared first, since most slots differ early; the check is worked out last.
-fn recall(slot: &[u8], front: &[u8], ticks: u32) -> Found
-    requires { ⌜ (length (now slot) ≡ 512) × ((length (now front) ≡ 287) × (ticks ≤ 4096)) ⌝ }
-    ensures { λ r. ⌜ Finds (now (slot .entry)) (take 283 (now (front .entry))) ticks r ⌝ }
+fn recall(slot: &[u8], front: &[u8], run: Run) -> Found
+    requires { ⌜ (length (now slot) ≡ 512) × ((length (now front) ≡ 287) × Ticks (run .ticks)) ⌝ }
+    ensures { λ r. ⌜ Recalls (now (slot .entry)) (take 283 (now (front .entry))) (runOf run) r ⌝ }
 {
     if first_other(slot, front) < 283 {
         return Found::Nothing;
@@ -75,7 +78,7 @@ fn recall(slot: &[u8], front: &[u8], ticks: u32) -> Found
     }
     let code = code_in(slot);
     if code != NONE {
-        if 256 * ticks < code {
+        if 256 * run.ticks < code {
             return Found::Nothing;
         }
     }
@@ -85,13 +88,13 @@ fn recall(slot: &[u8], front: &[u8], ticks: u32) -> Found
     }
 }
 
-pub(crate) fn look(book: &[u8], at: usize, front: &[u8], ticks: u32) -> Found
-    requires { ⌜ (512 * suc at ≤ length (now book)) × ((length (now front) ≡ 287) × (ticks ≤ 4096)) ⌝ }
-    ensures { λ r. ⌜ Finds (slotAt (now (book .entry)) at) (take 283 (now (front .entry))) ticks r ⌝ }
+pub(crate) fn look(book: &[u8], at: usize, front: &[u8], run: Run) -> Found
+    requires { ⌜ (512 * suc at ≤ length (now book)) × ((length (now front) ≡ 287) × Ticks (run .ticks)) ⌝ }
+    ensures { λ r. ⌜ Recalls (slotAt (now (book .entry)) at) (take 283 (now (front .entry))) (runOf run) r ⌝ }
 {
     let from = 512 * at;
     let to = from + 512;
-    recall(&book[from..to], front, ticks)
+    recall(&book[from..to], front, run)
 }
 
 // The slot becomes the block of these first bytes.

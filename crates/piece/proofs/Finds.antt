@@ -1,5 +1,5 @@
 -- What the pass over the corners and the search of pairs find is what the checks of a footprint say. Assumes nothing.
-use mathlib.Core.Path.{_≡_, refl, sym, ap, subst, _∙_}
+use mathlib.Core.Path.{refl, sym, ap, subst, _∙_}
 use mathlib.Core.Logic.{_⊎_, inl, inr, ⊎-elim}
 use mathlib.Core.List.{List, _∷_}
 use Prim.Native.Nat.{ℕ, zero, suc, _+_, _*_, _-_, _≤_, _<_}
@@ -7,8 +7,8 @@ use native.Mathlib.Omega.{arith}
 use lib.IntN.{ℤ, pos}
 use lib.ListN.{length}
 use lib.Signed.{_≤ℤ_, _<ℤ_}
-use Rattle.whole.proofs.Order.{ℕ-or, clash}
-use Rattle.rules.specs.Ring.{Pt, Ring, ring, next, from, to, On}
+use Rattle.whole.proofs.Order.{clash}
+use Rattle.rules.specs.Ring.{Pt, Ring, ring, from, to, On}
 use Rattle.rules.specs.Refusal.{First, Passes, Fault, each, refuse}
 use Rattle.rules.specs.Good.{Same, Folds, Meet, FirstMeet, area, bandNumber, Sized, sizedCheck, bandCheck, shapeChecks, footprintChecks, pieceChecks}
 use Rattle.rules.proofs.Share.{fold-ends, end-folds}

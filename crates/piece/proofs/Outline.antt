@@ -1,28 +1,26 @@
 -- One pass over the corners: first hits, the reach of what was passed, twice the area. Assumes nothing.
 use mathlib.Core.Path.{_≡_, refl, sym, ap, subst, _∙_}
 use mathlib.Core.Bool.{Bool, true, false, cond}
-use mathlib.Core.Logic.{_⊎_, inl, inr, ⊎-elim}
+use mathlib.Core.Logic.{_⊎_, ⊎-elim}
 use mathlib.Core.List.{List, [], _∷_}
 use Prim.Native.Nat.{ℕ, suc, _+_, _*_, _-_, _≤_, _<_}
 use native.Mathlib.Omega.{arith}
 use native.Mathlib.Numerals.{add-one}
-use lib.Dec.{ltb, eqb}
 use lib.IntN.{ℤ, pos, natAbs, _+ℤ_, _-ℤ_, _*ℤ_}
 use lib.ListN.{length, getD}
-use borrow.Author.Tests.{lt-ltb, le-ltb, eq-eqb, ne-eqb}
+use borrow.Author.Tests.{lt-ltb, le-ltb}
 use native.Mathlib.Nat.{add-zero}
 use Rattle.whole.proofs.Order.{ℕ-or}
 use Rattle.whole.proofs.Polynomial.{vars4, poly}
 use mir.Syntax.{w64}
 use mir.Val.{SFits}
 use Rattle.whole.proofs.Range.{fits, at-most, abs-add}
-use Rattle.rules.specs.Reach.{Reach, Corners}
-use Rattle.rules.specs.Ring.{Pt, Ring, ring, next, from, to, On}
+use Rattle.rules.specs.Reach.{Reach}
+use Rattle.rules.specs.Ring.{Ring, ring, next, from, to}
 use Rattle.rules.specs.Refusal.{First}
-use Rattle.rules.specs.Good.{Same, Folds, area}
+use Rattle.rules.specs.Good.{Same, area}
 use Rattle.rules.proofs.Reach.{between-stable}
-use Rattle.rules.proofs.Ring.{next-ways, next-below, next-inner}
-use Rattle.rules.proofs.Share.{fold-ends, end-folds}
+use Rattle.rules.proofs.Ring.{next-ways, next-inner}
 use Rattle.piece.specs.Decide.{Decides, Seeks}
 use Rattle.piece.specs.Shape.{Holds, Corner, Stray, back, Bend, marked, Drawing, equal, bends}
 use Rattle.piece.proofs.Decide.{yes, no, truth, none-found}

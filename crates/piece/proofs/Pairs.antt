@@ -1,14 +1,13 @@
 -- All pairs of edges that are not neighbours, row by row. Assumes nothing.
-use mathlib.Core.Path.{_≡_, refl, sym, ap, subst, _∙_}
+use mathlib.Core.Path.{_≡_}
 use mathlib.Core.Bool.{Bool, true, false}
 use mathlib.Core.Logic.{_⊎_, inl, inr, ⊎-elim}
-use Prim.Native.Nat.{ℕ, suc, _+_, _≤_, _<_}
+use Prim.Native.Nat.{ℕ, _+_, _≤_, _<_}
 use native.Mathlib.Omega.{arith}
 use Rattle.whole.proofs.Order.{ℕ-or}
-use Rattle.rules.specs.Ring.{Pt, Ring, next, from, to, Neighbours, Share}
-use Rattle.rules.specs.Good.{Meet, FirstMeet}
+use Rattle.rules.specs.Ring.{Ring, next, from, to, Neighbours}
+use Rattle.rules.specs.Good.{Meet}
 use Rattle.rules.proofs.Ring.{next-ways}
-use Rattle.piece.specs.Decide.{Decides, Seeks}
 use Rattle.piece.specs.Shape.{Ends, shares}
 use Rattle.piece.proofs.Decide.{yes, no}
 use Rattle.piece.proofs.Shape.{shares-decides}

@@ -1,14 +1,14 @@
 -- The tests of corners and edges decide what the rules say of them. Assumes nothing.
-use mathlib.Core.Path.{_≡_, refl, sym, ap, _∙_}
+use mathlib.Core.Path.{_≡_, refl, sym, _∙_}
 use mathlib.Core.Bool.{Bool, true, false, not, _&&_, _||_}
 use mathlib.Core.Logic.{_⊎_, inl, inr, ⊎-elim}
 use native.Mathlib.Omega.{arith}
-use lib.IntN.{ℤ, pos, _+ℤ_, _-ℤ_, _*ℤ_}
+use lib.IntN.{ℤ, pos}
 use lib.Signed.{_≤ℤ_, _<ℤ_, leZ, ltZ}
 use Rattle.whole.proofs.Difference.{all, ring}
-use Rattle.whole.proofs.Order.{antisym, clash}
+use Rattle.whole.proofs.Order.{antisym}
 use Rattle.whole.proofs.Polynomial.{vars4, vars6, poly, num-val, by-ring}
-use Rattle.whole.proofs.Flag.{decided, false-true, lt-true, lt-false, le-true, le-false, true-lt, true-le}
+use Rattle.whole.proofs.Flag.{false-true, lt-true, le-true, true-lt, true-le}
 use Rattle.rules.specs.Ring.{Pt, On, Share}
 use Rattle.rules.proofs.Segment.{o, side, Apart, right, left, right′, left′, below, above, before, behind}
 use Rattle.rules.proofs.On.{on-or-off, off-not-on}

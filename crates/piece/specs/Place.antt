@@ -1,6 +1,6 @@
 -- Where a point lies, in the enums' words. Assumes nothing.
 use mathlib.Core.List.{List}
-use Prim.Native.Nat.{ℕ, _≤_}
+use Prim.Native.Nat.{_≤_}
 use lib.IntN.{ℤ, natAbs}
 use Rattle.rules.specs.Ring.{Pt, ring}
 use Rattle.rules.specs.Refusal.{Passes, Fault}

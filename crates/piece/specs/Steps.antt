@@ -1,5 +1,5 @@
 -- What the leaf functions ask of a machine's width: each value on the way fits. Assumes nothing.
-use lib.IntN.{ℤ, _+ℤ_, _-ℤ_, _*ℤ_}
+use lib.IntN.{ℤ, _-ℤ_, _*ℤ_}
 use mir.Syntax.{w64}
 use mir.Val.{SFits}
 use Rattle.rules.proofs.Segment.{side}

@@ -10,14 +10,12 @@ use refusal::Refusal;
 ghost use mathlib.Core.Path.{_≡_};
 ghost use mathlib.Core.Bool.{true};
 ghost use Prim.Native.Nat.{ℕ, _+_, _*_, _-_, _<_};
-ghost use lib.IntN.{pos};
-ghost use lib.ListN.{length, getD};
 ghost use Rattle.rules.specs.Reach.{Corners, Reach};
-ghost use Rattle.rules.specs.Ring.{ring, On};
+ghost use Rattle.rules.specs.Ring.{ring};
 ghost use Rattle.rules.specs.Good.{Sized, Meet, shapeChecks, footprintChecks};
 ghost use Rattle.refusal.specs.Said.{Finds};
 ghost use Rattle.piece.specs.Decide.{Decides, Seeks};
-ghost use Rattle.piece.specs.Shape.{Holds, Corner, Stray, Bend, marked, Drawing, Outlined, Ends, Met, bends};
+ghost use Rattle.piece.specs.Shape.{Holds, Corner, Stray, marked, Drawing, Outlined, Ends, Met, bends};
 
 // What one pass over the corners finds: a number out of reach, or the first corner that equals the next, the first with a fold (the corners' count where there is none), and twice the area.
 enum Outline {

@@ -28,6 +28,10 @@ use Rattle.room.specs.Verdicts.{verdictsChecks, CodeOf, Filled, Verdicts
 use Rattle.room.specs.Codes.{CodesTo, AllCoded, Stored}
 use Rattle.room.proofs.Images.{fault-zero, head-few}
 
+-- nothing is below 0
+pub none-below : (i : ℕ) → i < 0 → ⊥
+none-below i h = omega arith
+
 -- ---- the corners that a reading holds
 module _ (l : List ℕ) (r : PieceRead) (g : PieceGood l r) where
   abbrev k : Piece
@@ -68,12 +72,6 @@ pub code-passes : (r : Run) (image : List ℕ) (i c : ℕ) → CodeOf r image i 
 code-passes r image i c h = rw (h .block) (piece-passes (h .piece) (h .good))
 
 module _ (r : Run) (image : List ℕ) where
-  pub codes-none : (codes : List ℕ) → CodesTo r image codes 0
-  codes-none codes i h = absurd (never i h)
-    where
-      never : (i : ℕ) → i < 0 → ⊥
-      never i h = omega arith
-
   pub codes-more : (codes : List ℕ) (i c : ℕ) → i < length codes → CodesTo r image codes i → CodeOf r image i c → CodesTo r image (set codes i c) (i + 1)
   codes-more codes i c l h new =
       below-more (λ j. CodeOf r image j (getD (set codes i c) j 0)) i
@@ -107,10 +105,7 @@ head-fault image x b f = fault-left (headChecks image) (piecesCheck image ∷ []
 
 -- ---- the lent list
 pub stored-none : (codes l : List ℕ) → Stored codes 0 l l
-stored-none codes l = record { size = refl; first = λ i h. absurd (never i h); rest = λ i h. refl }
-  where
-    never : (i : ℕ) → i < 0 → ⊥
-    never i h = omega arith
+stored-none codes l = record { size = refl; first = λ i h. absurd (none-below i h); rest = λ i h. refl }
 
 pub stored-more : (codes before l : List ℕ) (i : ℕ) → i < length l → Stored codes i before l → Stored codes (i + 1) before (set l i (getD codes i 0))
 stored-more codes before l i h s = record {

@@ -85,10 +85,10 @@ fn store(codes: &[u32; 126], n: usize, list: &mut [u32])
     requires { ⌜ (n ≤ 126) × (n ≤ length (now list)) ⌝ }
     ensures { λ _. ⌜ Stored (now (codes .entry)) n (now (list .entry)) (now (list .exit)) ⌝ }
 {
-    let mut i = 0;
-    while i < n {
-        list[i] = codes[i];
-        i += 1;
+    let mut k = 0;
+    while k < n {
+        list[k] = codes[k];
+        k += 1;
     }
 }
 

@@ -1,7 +1,6 @@
 -- `block::fill::byte_at` meets its contract: past its end a list has zeros. Assumes nothing.
 use mathlib.Core.Path.{sym}
 use borrow.Author.Needs.{needs}
-use native.Mathlib.Omega.{arith}
 use lib.ListN.{List·getD-eq-default}
 use denote.Ref.{now}
 use Rattle.block.proofs.fill.byte_at.Statement.{statement}

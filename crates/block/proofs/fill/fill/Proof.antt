@@ -1,11 +1,10 @@
 -- `block::fill::fill` meets its contract. The loop's invariant: the bytes passed are the front's. Assumes nothing.
-use mathlib.Core.Path.{_≡_, _∙_}
-use mathlib.Core.List.{List}
-use Prim.Native.Nat.{ℕ, _+_, _-_, _≤_, _<_}
+use mathlib.Core.Path.{_≡_}
+use Prim.Native.Nat.{ℕ, _-_, _≤_, _<_}
 use borrow.Author.Count.{below-none}
 use borrow.Author.Needs.{needs}
 use native.Mathlib.Omega.{arith}
-use lib.ListN.{length, set, length-set}
+use lib.ListN.{length, length-set}
 use denote.Ref.{now}
 use Rattle.block.specs.Layout.{byte}
 use Rattle.block.proofs.Bytes.{stored}

@@ -1,5 +1,5 @@
 -- `block::fill::front_byte` meets its contract: number j stands at bytes 2 + 2·j and 3 + 2·j. Assumes nothing.
-use mathlib.Core.Path.{_≡_, sym, ap, _∙_}
+use mathlib.Core.Path.{sym, ap, _∙_}
 use Prim.Native.Nat.{_-_, _/_, _%_}
 use native.Mathlib.Omega.{arith}
 use mir.Syntax.{w32}

@@ -1,7 +1,7 @@
 -- `block::pieces::piece_numbers` meets its contract. The loop's invariant: the numbers passed are the piece's. Assumes nothing.
 use mathlib.Core.Path.{_≡_, refl, sym, _∙_}
 use mathlib.Core.Logic.{⊎-elim}
-use Prim.Native.Nat.{ℕ, _+_, _-_, _≤_, _<_}
+use Prim.Native.Nat.{ℕ, _-_, _≤_, _<_}
 use borrow.Author.Count.{below-none}
 use borrow.Author.Needs.{needs}
 use native.Mathlib.Omega.{arith}

@@ -1,12 +1,8 @@
 -- `block::word::bits_of` meets its contract: a negative number's two bytes are those of the number plus 65,536. Assumes nothing.
-use borrow.Author.Needs.{needs}
 use native.Mathlib.Omega.{arith}
 use lib.IntN.{pos}
-use mir.Syntax.{w32}
-use mir.Val.{SFits}
-use mir.Facts.{toZ-ofZ}
 use Rattle.whole.proofs.Range.{lt-yes, lt-no, lit}
-use Rattle.block.proofs.Words.{bits-below, bits-above, negative-fits, word-below, half-word}
+use Rattle.block.proofs.Words.{bits-below, bits-above, negative-fits, word-below}
 use Rattle.block.proofs.word.bits_of.Statement.{statement}
 use Rattle.block.proofs.word.bits_of.Tie as tie
 

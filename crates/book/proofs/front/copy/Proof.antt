@@ -1,5 +1,5 @@
 -- `book::front::copy` meets its contract. The loop's invariant: the bytes passed are copied. Assumes nothing.
-use mathlib.Core.Path.{_≡_, refl, _∙_}
+use mathlib.Core.Path.{_≡_, refl}
 use Prim.Native.Nat.{ℕ, _-_, _≤_, _<_}
 use borrow.Author.Count.{below-none}
 use borrow.Author.Needs.{needs}

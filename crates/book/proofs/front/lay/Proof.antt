@@ -1,6 +1,5 @@
 -- `book::front::lay` meets its contract. Assumes nothing.
 use mathlib.Core.Path.{_∙_}
-use native.Mathlib.Omega.{arith}
 use borrow.Author.Needs.{needs}
 use lib.ListN.{set, length-set}
 use denote.Ref.{now}

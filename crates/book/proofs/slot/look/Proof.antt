@@ -5,7 +5,8 @@ use Prim.Native.Nat.{ℕ}
 use borrow.Author.Needs.{needs}
 use lib.ListN.{take}
 use denote.Ref.{now}
-use Rattle.book.specs.Steps.{Finds}
+use Rattle.piece.specs.Numbers.{runOf}
+use Rattle.book.specs.Steps.{Recalls}
 use Rattle.book.proofs.Slots.{part-slot}
 use Rattle.book.proofs.slot.look.Statement.{statement}
 use Rattle.book.proofs.slot.look.Tie as tie
@@ -31,7 +32,7 @@ recall-requires c κs = search needs
 returns : tie.Need-returns
 returns c =
     let a = c .before .before .before .before .args in
-    subst (λ (l : List ℕ). Finds l (take 283 (now (a .front))) (a .ticks) (c .recall .result)) (part-slot (now (a .book)) (a .at)) (c .recall .ensures)
+    subst (λ (l : List ℕ). Recalls l (take 283 (now (a .front))) (runOf (a .run)) (c .recall .result)) (part-slot (now (a .book)) (a .at)) (c .recall .ensures)
 
 pub look-spec : {M : Type 1} → statement M
 look-spec =

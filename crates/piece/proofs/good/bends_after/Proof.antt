@@ -1,7 +1,6 @@
 -- `good::bends_after` decides. Assumes nothing.
 use Rattle.piece.proofs.Shape.{decides}
-use mathlib.Core.Bool.{true}
-use mathlib.Core.Path.{_≡_, sym, _∙_}
+use mathlib.Core.Path.{sym, _∙_}
 use native.Mathlib.Omega.{arith}
 use borrow.Author.Needs.{needs}
 use Rattle.piece.proofs.good.bends_after.Statement.{statement}

@@ -1,15 +1,12 @@
 -- `good::check_shape` finds what the checks say. Assumes nothing.
 use Rattle.piece.proofs.Finds.{found-stray}
-use Rattle.piece.specs.Shape.{Stray, Drawing, Outlined}
+use Rattle.piece.specs.Shape.{Stray, Outlined}
 use Rattle.rules.specs.Refusal.{First}
 use Rattle.whole.proofs.Range.{field}
 use mir.Syntax.{w64}
-use lib.IntN.{ℤ}
 use lib.ListN.{length}
-use mathlib.Core.List.{List}
 use native.Mathlib.Omega.{arith}
-use Prim.Native.Nat.{ℕ, _*_, _<_}
-use mathlib.Core.Path.{_≡_, refl, sym, subst}
+use mathlib.Core.Path.{subst}
 use borrow.Author.Needs.{needs}
 use Rattle.piece.proofs.good.check_shape.Statement.{statement}
 use Rattle.piece.proofs.good.check_shape.Tie as tie

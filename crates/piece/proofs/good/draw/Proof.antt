@@ -2,22 +2,17 @@
 use mathlib.Core.Bool.{true}
 use native.Mathlib.Nat.{zero-add}
 use Rattle.piece.proofs.Outline.{size-of, Reached, corner-by, corner-all, corner-here, corner-before, Passed, passed-none, passed-step, sum-fits, wedge, drawn-zero, drawn-later, stray-first, reached-two, reached-next}
-use Rattle.piece.specs.Shape.{Corner, Stray, bends, equal}
+use Rattle.piece.specs.Shape.{Corner, bends, equal}
 use Rattle.piece.specs.Decide.{Decides}
-use Rattle.rules.proofs.Ring.{next-ways, next-below}
-use Rattle.rules.specs.Refusal.{First}
+use Rattle.rules.proofs.Ring.{next-below}
 use Rattle.rules.specs.Ring.{ring, next}
-use Rattle.whole.proofs.Order.{ℕ-or}
 use Rattle.whole.proofs.Range.{read}
 use mir.Facts.{toZ-ofZ}
 use mir.Val.{toZ, ofZ}
 use mir.Syntax.{w64}
-use lib.IntN.{_+ℤ_, _-ℤ_, _*ℤ_}
-use lib.ListN.{length}
+use lib.IntN.{_-ℤ_, _*ℤ_}
 use native.Mathlib.Omega.{arith}
-use native.Mathlib.Nat.{add-zero}
-use Prim.Native.Nat.{ℕ, _+_, _*_, _-_, _≤_, _<_}
-use mathlib.Core.Logic.{⊎-elim}
+use Prim.Native.Nat.{ℕ, _*_, _-_, _<_}
 use mathlib.Core.Path.{_≡_, sym, ap, subst, _∙_}
 use Rattle.piece.proofs.good.draw.Statement.{statement}
 use Rattle.piece.proofs.good.draw.Tie as tie

@@ -1,7 +1,7 @@
 -- `good::row` finds the first edge that edge i meets: the edges passed do not. Assumes nothing.
 use Rattle.piece.proofs.Outline.{size-of}
 use Rattle.piece.proofs.Pairs.{meets, hit, missed}
-use Rattle.piece.specs.Shape.{Corner, Ends}
+use Rattle.piece.specs.Shape.{Ends}
 use Rattle.rules.proofs.Ring.{next-below}
 use Rattle.rules.specs.Ring.{ring, next}
 use Rattle.whole.proofs.Order.{ℕ-or}
@@ -9,7 +9,7 @@ use mathlib.Core.Logic.{⊎-elim}
 use native.Mathlib.Omega.{arith}
 use Prim.Native.Nat.{ℕ, _+_, _-_, _≤_, _<_}
 use mathlib.Core.Bool.{false}
-use mathlib.Core.Path.{_≡_, refl, sym, subst, _∙_}
+use mathlib.Core.Path.{_≡_, sym, subst, _∙_}
 use Rattle.piece.proofs.good.row.Statement.{statement}
 use Rattle.piece.proofs.good.row.Tie as tie
 

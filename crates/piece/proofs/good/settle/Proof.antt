@@ -1,14 +1,13 @@
 -- `good::settle` finds what the checks say. Assumes nothing.
 use Rattle.piece.proofs.Finds.{found-same, found-fold, found-meet, found-clockwise, found-good}
 use Rattle.piece.proofs.Outline.{size-of, corner-at}
-use Rattle.piece.specs.Shape.{Corner, Stray, Met}
+use Rattle.piece.specs.Shape.{Corner, Met}
 use Rattle.rules.specs.Ring.{ring}
 use Rattle.whole.proofs.Range.{lt-yes, lt-no, lit}
-use mir.Facts.{toZ-ofZ}
 use lib.IntN.{pos}
 use native.Mathlib.Omega.{arith}
-use Prim.Native.Nat.{ℕ, _+_, _*_, _<_}
-use mathlib.Core.Path.{_≡_, sym, subst, _∙_}
+use Prim.Native.Nat.{ℕ, _*_, _<_}
+use mathlib.Core.Path.{subst}
 use borrow.Author.Needs.{needs}
 use Rattle.piece.proofs.good.settle.Statement.{statement}
 use Rattle.piece.proofs.good.settle.Tie as tie

@@ -1,11 +1,10 @@
 -- `good::stray` finds the first number out of reach. Assumes nothing.
 use Rattle.piece.specs.Shape.{Stray}
 use native.Mathlib.Nat.{add-zero}
-use Prim.Native.Nat.{ℕ, _+_, _*_}
+use Prim.Native.Nat.{_+_, _*_}
 use Rattle.piece.proofs.Decide.{Below, none-yet, one-more, stop, passed, taken, rejected}
 use mir.Syntax.{w32}
 use Rattle.rules.specs.Reach.{Reach}
-use native.Mathlib.Omega.{arith}
 use borrow.Author.Needs.{needs}
 use Rattle.piece.proofs.good.stray.Statement.{statement}
 use Rattle.piece.proofs.good.stray.Tie as tie

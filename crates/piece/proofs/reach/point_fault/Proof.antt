@@ -4,7 +4,6 @@ use Rattle.piece.specs.Place.{pt}
 use Rattle.rules.specs.Place.{pointNumber}
 use Rattle.rules.specs.Reach.{Reach}
 use mir.Syntax.{w32}
-use Prim.Native.Nat.{ℕ}
 use borrow.Author.Needs.{needs}
 use Rattle.piece.proofs.reach.point_fault.Statement.{statement}
 use Rattle.piece.proofs.reach.point_fault.Tie as tie

@@ -2,18 +2,15 @@
 use Rattle.piece.proofs.Scan.{over-one}
 use Rattle.piece.proofs.Finds.{PlaceKnown, place-known}
 use Rattle.piece.proofs.Steps.{reach-wide}
-use Rattle.piece.specs.Place.{pt, whereOf}
+use Rattle.piece.specs.Place.{pt}
 use Rattle.decide.proofs.Place.{place-right}
-use Rattle.decide.specs.Touch.{place, over}
-use Rattle.rules.specs.Place.{Place}
+use Rattle.decide.specs.Touch.{place}
 use Rattle.rules.specs.Ring.{Ring, ring}
 use mir.Facts.{toZ-ofZ, sfits-widen}
-use mir.Val.{SFits, toZ, ofZ}
+use mir.Val.{SFits}
 use mir.Syntax.{w64}
-use lib.IntN.{pos}
 use native.Mathlib.Omega.{arith}
-use Prim.Native.Nat.{_≤_}
-use mathlib.Core.Path.{_≡_, sym, ap, subst, _∙_}
+use mathlib.Core.Path.{ap, _∙_}
 use Rattle.piece.proofs.spot.grid_spot.Statement.{statement}
 use Rattle.piece.proofs.spot.grid_spot.Tie as tie
 

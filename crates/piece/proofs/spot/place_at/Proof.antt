@@ -4,15 +4,14 @@ use Rattle.piece.proofs.Outline.{size-of}
 use Rattle.piece.specs.Place.{pt, Near}
 use Rattle.piece.specs.Shape.{Corner}
 use Rattle.decide.specs.Touch.{isOn, over}
-use Rattle.rules.proofs.Crossing.{xor, flag, crosses}
+use Rattle.rules.proofs.Crossing.{crosses}
 use Rattle.rules.proofs.Ring.{next-below}
 use Rattle.rules.specs.Ring.{Pt, Ring, ring, next, from, to}
 use mir.Facts.{toZ-ofZ}
 use mir.Val.{toZ, ofZ}
 use mir.Syntax.{w64}
 use native.Mathlib.Omega.{arith}
-use Prim.Native.Nat.{ℕ, _+_, _-_, _<_}
-use mathlib.Core.Bool.{Bool, true, false}
+use Prim.Native.Nat.{ℕ, _-_}
 use mathlib.Core.Path.{_≡_, sym, ap, subst, _∙_}
 use Rattle.piece.proofs.spot.place_at.Statement.{statement}
 use Rattle.piece.proofs.spot.place_at.Tie as tie

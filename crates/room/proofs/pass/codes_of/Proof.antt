@@ -1,8 +1,8 @@
 -- `room::pass::codes_of` meets its contract: the pieces below i have their codes. Assumes nothing.
-use mathlib.Core.Path.{_≡_, refl, sym, subst, _∙_}
-use Prim.Native.Nat.{ℕ, _+_, _-_, _≤_, _<_}
+use mathlib.Core.Path.{_≡_, refl, subst, _∙_}
+use Prim.Native.Nat.{_-_, _≤_, _<_}
 use native.Mathlib.Omega.{arith}
-use lib.ListN.{length, replicate, length-set}
+use lib.ListN.{length, length-set}
 use denote.Ref.{now}
 use borrow.Author.Needs.{needs}
 use Rattle.piece.specs.Numbers.{runOf}
@@ -11,7 +11,7 @@ use Rattle.room.specs.declared.pass.Coded.the-variants.{Code, NoPiece}
 use Rattle.room.specs.Image.{count, Has}
 use Rattle.room.specs.Codes.{CodeFound, CodesTo}
 use Rattle.room.proofs.Images.{head-few}
-use Rattle.room.proofs.Coding.{codes-none, codes-more, codes-pass, codes-stop}
+use Rattle.room.proofs.Coding.{none-below, codes-more, codes-pass, codes-stop}
 use Rattle.room.proofs.pass.codes_of.Statement.{statement}
 use Rattle.room.proofs.pass.codes_of.Tie as tie
 
@@ -22,7 +22,7 @@ abbrev μ-loop : tie.MeasureT-loop
 μ-loop run image n codes₀ i₀ codes i = n - i
 
 loop-holds : tie.Need-loop-holds Inv-loop μ-loop
-loop-holds c = (search needs, refl, codes-none _ _ (replicate 126 0))
+loop-holds c = (search needs, refl, λ i h. absurd (none-below i h))
 
 few : (c : tie.In-loop Inv-loop μ-loop) → c .before .loop .i < 126
 few c = let h = head-few _ (c .before .before .before .pre .1) in let e = c .before .before .before .pre .2 in omega arith

@@ -1,4 +1,4 @@
--- `room::pass::store` meets its contract: the elements below i are the codes. Assumes nothing.
+-- `room::pass::store` meets its contract: the elements below k are the codes. Assumes nothing.
 use mathlib.Core.Path.{_≡_, subst}
 use Prim.Native.Nat.{ℕ, _≤_, _-_}
 use denote.Ref.{now}
@@ -10,10 +10,10 @@ use Rattle.room.proofs.pass.store.Statement.{statement}
 use Rattle.room.proofs.pass.store.Tie as tie
 
 abbrev Inv-loop : tie.InvT-loop
-Inv-loop codes n list₀ i₀ list i = (i ≤ n) × Stored codes i list₀ list
+Inv-loop codes n list₀ k₀ list k = (k ≤ n) × Stored codes k list₀ list
 
 abbrev μ-loop : tie.MeasureT-loop
-μ-loop codes n list₀ i₀ list i = n - i
+μ-loop codes n list₀ k₀ list k = n - k
 
 loop-holds : tie.Need-loop-holds Inv-loop μ-loop
 loop-holds c = (search needs, stored-none _ _)
@@ -30,21 +30,21 @@ mul-list-2 c = search needs
 slice-write-list : tie.Need-slice-write-list Inv-loop μ-loop
 slice-write-list c = search needs
 
-add-i : tie.Need-add-i Inv-loop μ-loop
-add-i c = search needs
+add-k : tie.Need-add-k Inv-loop μ-loop
+add-k c = search needs
 
 loop-less : tie.Need-loop-less Inv-loop μ-loop
 loop-less c = search needs
 
 loop-again : tie.Need-loop-again Inv-loop μ-loop
-loop-again c = (search needs, stored-more _ _ (c .before .before .loop .list) (c .before .before .loop .i) (omega arith) (c .before .before .loop .inv .1))
+loop-again c = (search needs, stored-more _ _ (c .before .before .loop .list) (c .before .before .loop .k) (omega arith) (c .before .before .loop .inv .1))
 
 same-length : tie.Need-same-length Inv-loop μ-loop
 same-length c = c .before .loop .inv .1 .size
 
 returns : tie.Need-returns Inv-loop μ-loop
 returns c =
-    let i = c .before .loop .i in let n = c .before .before .args .n in let e : i ≡ n = omega arith in
+    let k = c .before .loop .k in let n = c .before .before .args .n in let e : k ≡ n = omega arith in
     subst (λ (m : ℕ). Stored (now (c .before .before .args .codes)) m (now (c .before .before .args .list)) (c .before .loop .list)) e (c .before .loop .inv .1)
 
 pub store-spec : {M : Type 1} → statement M
@@ -58,7 +58,7 @@ store-spec =
     element-copy-out-list
     mul-list-2
     slice-write-list
-    add-i
+    add-k
     loop-less
     loop-again
     same-length

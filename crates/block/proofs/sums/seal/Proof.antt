@@ -1,10 +1,10 @@
--- `block::check::seal` meets its contract: the sums are what `sums_of` ensures, and each is a byte. Assumes nothing.
+-- `block::sums::seal` meets its contract: the sums are what `sums_of` ensures, and each is a byte. Assumes nothing.
 use borrow.Author.Needs.{needs}
 use native.Mathlib.Omega.{arith}
 use denote.Ref.{now}
 use Rattle.block.proofs.Bytes.{plain-below, weighed-below}
-use Rattle.block.proofs.check.seal.Statement.{statement}
-use Rattle.block.proofs.check.seal.Tie as tie
+use Rattle.block.proofs.sums.seal.Statement.{statement}
+use Rattle.block.proofs.sums.seal.Tie as tie
 
 sums-of-requires : tie.Need-sums-of-requires
 sums-of-requires c κs = search needs

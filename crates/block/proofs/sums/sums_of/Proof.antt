@@ -1,16 +1,16 @@
--- `block::check::sums_of` meets its contract. The loop's invariant: both sums over the bytes passed, each at most what so many bytes can come to.
+-- `block::sums::sums_of` meets its contract. The loop's invariant: both sums over the bytes passed, each at most what so many bytes can come to.
 -- Assumes nothing.
-use mathlib.Core.Path.{_≡_, refl, ap, _∙_}
+use mathlib.Core.Path.{_≡_, refl, ap}
 use mathlib.Core.List.{List}
-use Prim.Native.Nat.{ℕ, zero, suc, _+_, _*_, _-_, _%_, _≤_, _<_}
+use Prim.Native.Nat.{ℕ, _+_, _*_, _-_, _%_, _≤_, _<_}
 use native.Mathlib.Nat.{mul-le-mul}
 use native.Mathlib.Omega.{arith}
 use mir.Syntax.{w8}
 use mir.Val.{Fits}
 use Rattle.block.specs.Layout.{byte, sum, plainSum, weighedSum}
 use Rattle.block.proofs.Bytes.{sum-more}
-use Rattle.block.proofs.check.sums_of.Statement.{statement}
-use Rattle.block.proofs.check.sums_of.Tie as tie
+use Rattle.block.proofs.sums.sums_of.Statement.{statement}
+use Rattle.block.proofs.sums.sums_of.Tie as tie
 
 record Upto (l : List ℕ) (i plain weighed : ℕ) : Type 0 where
   below : i ≤ 510

@@ -1,11 +1,11 @@
--- `block::check::check_block` meets its contract: the check is wrong where either byte is not its sum. Assumes nothing.
+-- `block::sums::check_block` meets its contract: the check is wrong where either byte is not its sum. Assumes nothing.
 use mathlib.Core.Path.{refl, sym, _∙_}
 use mathlib.Core.Logic.{inl, inr}
 use native.Mathlib.Omega.{arith}
 use borrow.Author.Needs.{needs}
 use Rattle.block.specs.Reading.{blockChecks}
-use Rattle.block.proofs.check.check_block.Statement.{statement}
-use Rattle.block.proofs.check.check_block.Tie as tie
+use Rattle.block.proofs.sums.check_block.Statement.{statement}
+use Rattle.block.proofs.sums.check_block.Tie as tie
 
 returns : tie.Need-returns
 unfolding blockChecks
