@@ -1,10 +1,12 @@
--- At most one answer is the verdict. Assumes nothing.
+-- At most one answer is the verdict, and a mark is at most 256·T. Assumes nothing.
 use mathlib.Core.Path.{_≡_, refl, ap}
-use Prim.Native.Nat.{ℕ}
+use Prim.Native.Nat.{ℕ, _*_, _≤_}
+use native.Mathlib.Omega.{arith}
+use lib.Dec.{leb→le}
 use lib.IntN.{pos, _+ℤ_}
 use lib.Signed.{_≤ℤ_}
-use Rattle.whole.specs.Fraction.{mark}
-use Rattle.whole.proofs.Fraction.{less, lt-then-le, marks}
+use Rattle.whole.specs.Fraction.{mark, whole}
+use Rattle.whole.proofs.Fraction.{trans, less, lt-then-le, marks}
 use Rattle.whole.proofs.Order.{antisym}
 use Rattle.rules.specs.Reach.{Run, Piece}
 use Rattle.rules.specs.Verdict.{Answer, clear, blocked, Mark, Verdict}
@@ -20,3 +22,6 @@ one-verdict r p (blocked j) (blocked k) f g = ap blocked (same j k (antisym _ _ 
   where
     same : (j k : ℕ) → pos j ≡ pos k → j ≡ k
     same j k e = cc
+
+pub mark-most : (r : Run) (p : Piece) (k : ℕ) → Mark r p k → k ≤ 256 * r .ticks
+mark-most r p k f = let l = leb→le (k * 1) (r .ticks * 256) (trans (mark (pos k)) (f .when) (whole (pos (r .ticks))) (f .within .low) (f .moment .to) .le) in omega arith
