@@ -1,0 +1,27 @@
+-- Signed numbers that a machine read back say the same run, piece and point. Assumes nothing.
+use mathlib.Core.Path.{_≡_, subst}
+use mathlib.Core.List.{List}
+use Prim.Native.Nat.{ℕ}
+use lib.IntN.{ℤ}
+use mir.Syntax.{w32}
+use mir.Val.{SFits, toZ, ofZ}
+use mir.Facts.{toZ-ofZ}
+use Rattle.rules.specs.Ring.{Pt}
+use Rattle.piece.specs.Place.{pt}
+use Rattle.baker.specs.Given.{run, piece}
+
+abbrev pub back : ℤ → ℤ
+back z = toZ w32 (ofZ w32 z)
+
+pub pt-back : {x y : ℤ} → SFits w32 x → SFits w32 y → pt (back x) (back y) ≡ pt x y
+pt-back f g = λ i. pt (toZ-ofZ f i) (toZ-ofZ g i)
+
+pub run-back : {x y z u v w : ℤ} {t : ℕ} → SFits w32 x → SFits w32 y → SFits w32 z → SFits w32 u → SFits w32 v → SFits w32 w → run (back x) (back y) (back z) (back u) (back v) (back w) t ≡ run x y z u v w t
+run-back {x} {y} {z} {u} {v} {w} {t} a b c d e f = λ i. run (toZ-ofZ a i) (toZ-ofZ b i) (toZ-ofZ c i) (toZ-ofZ d i) (toZ-ofZ e i) (toZ-ofZ f i) t
+
+pub piece-back : {b t u v w : ℤ} {l : List ℤ} → SFits w32 b → SFits w32 t → SFits w32 u → SFits w32 v → SFits w32 w → piece (back b) (back t) (back u) (back v) (back w) l ≡ piece b t u v w l
+piece-back {b} {t} {u} {v} {w} {l} c d e f g = λ i. piece (toZ-ofZ c i) (toZ-ofZ d i) (toZ-ofZ e i) (toZ-ofZ f i) (toZ-ofZ g i) l
+
+-- what is said of two values, said of two equal ones
+pub both : {A B : Type 0} (P : A → B → Type 0) {r s : A} {k l : B} → r ≡ s → k ≡ l → P r k → P s l
+both P {r} {s} {k} {l} e f h = subst (P s) f (subst (λ r. P r k) e h)

@@ -1,0 +1,5 @@
+pub mod Codes
+pub mod Back
+pub mod Listed
+pub mod Pairs
+pub mod Unique

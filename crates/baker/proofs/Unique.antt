@@ -1,0 +1,124 @@
+-- Two outcomes of a call that both meet its contract are equal: the number that comes back, and what was lent. Assumes nothing.
+use mathlib.Core.Path.{_≡_, refl, sym, ap, subst, _∙_}
+use mathlib.Core.List.{List}
+use Prim.Native.Nat.{ℕ, _/_, _%_}
+use lib.IntN.{ℤ}
+use lib.ListN.{length}
+use lib.Ieee.{Float}
+use Rattle.rules.specs.Reach.{Run, Piece}
+use Rattle.rules.specs.Refusal.{refuse}
+use Rattle.rules.specs.Ring.{Pt}
+use Rattle.rules.specs.Good.{runChecks, pieceChecks}
+use Rattle.rules.proofs.Checks.{AllSharp, sharp-demand}
+use Rattle.refusal.specs.Said.{Finds}
+use Rattle.refusal.specs.declared.Checked.{Checked}
+use Rattle.refusal.specs.declared.Checked.the-variants.{Good, Refused}
+use Rattle.refusal.proofs.Unique.{finds-one}
+use Rattle.piece.specs.declared.Run as plain
+use Rattle.piece.specs.declared.Band.{Band}
+use Rattle.piece.specs.Place.{Lies}
+use Rattle.piece.specs.Tells.{Tells}
+use Rattle.piece.proofs.Unique as piece
+use Rattle.piece.proofs.Tells.{one-told}
+use Rattle.block.specs.Layout.{headerBlock, runBlock, pieceBlock}
+use Rattle.block.specs.Reading.{headerAsked, runAsked, pieceAsked, HeaderSays, RunSays, PieceSays, Writes}
+use Rattle.block.proofs.Unique as block
+use Rattle.intake.specs.Number.{Answer}
+use Rattle.intake.specs.Footprint.{intakeChecks, Later}
+use Rattle.intake.proofs.Once.{one-answer, one-intake, sharp-intake}
+use Rattle.room.specs.Step.{StepSays}
+use Rattle.room.specs.Verdicts.{VerdictsSay}
+use Rattle.room.proofs.Unique as room
+use Rattle.book.specs.Ask.{AskSays}
+use Rattle.book.proofs.Unique as book
+use Rattle.baker.specs.Coded.{Coded, checkedCode, placedCode, verdictCode, headerCode, countedCode, askedCode}
+use Rattle.baker.specs.Listed.{Out, out, runListed, pieceListed, stepListed}
+use Rattle.baker.specs.Export.{One, one, takenOne, corners, exportChecks, Exported}
+
+-- ---- one answer, one code
+pub coded-one : {A B : Type 0} (S : A → Type 0) (f : A → B) (c d : B) → ((x y : A) → S x → S y → x ≡ y) → Coded S f c → Coded S f d → c ≡ d
+coded-one S f c d same h k = h .code ∙ ap f (same (h .answer) (k .answer) (h .says) (k .says)) ∙ sym (k .code)
+
+-- and what was lent, where the answer's promise speaks of it
+pub coded-lent : {A B L : Type 0} (S : L → A → Type 0) (f : A → B) (a b : L) (c d : B) → ((x y : A) → S a x → S b y → (x ≡ y) × (a ≡ b)) → Coded (S a) f c → Coded (S b) f d → (c ≡ d) × (a ≡ b)
+coded-lent S f a b c d same h k =
+    let e = same (h .answer) (k .answer) (h .says) (k .says) in
+    (h .code ∙ ap f (e .0) ∙ sym (k .code), e .1)
+
+-- a number and a list
+pub coded-list : {A : Type 0} (S : A → Type 0) (f : A → Out) (a b : List ℤ) (c d : ℕ) → ((x y : A) → S x → S y → x ≡ y) → Coded S f (out c a) → Coded S f (out d b) → (c ≡ d) × (a ≡ b)
+coded-list S f a b c d same h k = let e = coded-one S f (out c a) (out d b) same h k in (ap (λ (o : Out). o .code) e, ap (λ (o : Out). o .list) e)
+
+-- ---- plain numbers
+-- the numbers of a run and of a piece, as a crate below takes them
+abbrev numbers : Run → plain.Run
+numbers r = record { x = r .start .x; y = r .start .y; z = r .start .z; vx = r .speed .x; vy = r .speed .y; vz = r .speed .z; ticks = r .ticks }
+
+abbrev band : Piece → Band
+band k = record { bottom = k .bottom; top = k .top; vx = k .speed .x; vy = k .speed .y; vz = k .speed .z }
+
+pub check-run-one : (r : Run) (c d : ℕ) → Coded (Finds (runChecks r)) checkedCode c → Coded (Finds (runChecks r)) checkedCode d → c ≡ d
+check-run-one r c d = coded-one (Finds (runChecks r)) checkedCode c d (piece.check-run-one (numbers r))
+
+pub check-piece-one : (k : Piece) (c d : ℕ) → Coded (Finds (pieceChecks k)) checkedCode c → Coded (Finds (pieceChecks k)) checkedCode d → c ≡ d
+check-piece-one k c d = coded-one (Finds (pieceChecks k)) checkedCode c d (piece.check-piece-one (band k) (k .corners))
+
+pub place-one : (p : Pt) (l : List ℤ) (c d : ℕ) → Coded (Lies p l) placedCode c → Coded (Lies p l) placedCode d → c ≡ d
+place-one p l c d = coded-one (Lies p l) placedCode c d (piece.place-one p l)
+
+pub verdict-one : (r : Run) (k : Piece) (c d : ℕ) → Coded (Tells r k) verdictCode c → Coded (Tells r k) verdictCode d → c ≡ d
+verdict-one r k c d = coded-one (Tells r k) verdictCode c d (one-told r k)
+
+-- ---- blocks
+pub write-header-one : (n : ℕ) (before a b : List ℕ) (c d : ℕ) → Coded (Writes (headerAsked before n) (headerBlock n) before a) checkedCode c → Coded (Writes (headerAsked before n) (headerBlock n) before b) checkedCode d → (c ≡ d) × (a ≡ b)
+write-header-one n before a b c d = coded-lent (Writes (headerAsked before n) (headerBlock n) before) checkedCode a b c d (block.write-header-one n before a b)
+
+pub write-run-one : (r : Run) (before a b : List ℕ) (c d : ℕ) → Coded (Writes (runAsked before r) (runBlock r) before a) checkedCode c → Coded (Writes (runAsked before r) (runBlock r) before b) checkedCode d → (c ≡ d) × (a ≡ b)
+write-run-one r before a b c d = coded-lent (Writes (runAsked before r) (runBlock r) before) checkedCode a b c d (block.write-run-one (numbers r) before a b)
+
+pub write-piece-one : (k : Piece) (before a b : List ℕ) (c d : ℕ) → Coded (Writes (pieceAsked before k) (pieceBlock k) before a) checkedCode c → Coded (Writes (pieceAsked before k) (pieceBlock k) before b) checkedCode d → (c ≡ d) × (a ≡ b)
+write-piece-one k before a b c d = coded-lent (Writes (pieceAsked before k) (pieceBlock k) before) checkedCode a b c d (block.write-piece-one k before a b)
+
+pub read-header-one : (l : List ℕ) (c d : ℕ) → Coded (HeaderSays l) headerCode c → Coded (HeaderSays l) headerCode d → c ≡ d
+read-header-one l c d = coded-one (HeaderSays l) headerCode c d (block.read-header-one l)
+
+pub read-run-one : (l : List ℕ) (before a b : List ℤ) (c d : ℕ) → Coded (RunSays l) (runListed before) (out c a) → Coded (RunSays l) (runListed before) (out d b) → (c ≡ d) × (a ≡ b)
+read-run-one l before a b c d = coded-list (RunSays l) (runListed before) a b c d (block.read-run-one l)
+
+pub read-piece-one : (l : List ℕ) (before a b : List ℤ) (c d : ℕ) → Coded (PieceSays l) (pieceListed before) (out c a) → Coded (PieceSays l) (pieceListed before) (out d b) → (c ≡ d) × (a ≡ b)
+read-piece-one l before a b c d = coded-list (PieceSays l) (pieceListed before) a b c d (block.read-piece-one l)
+
+-- ---- rooms and the book
+pub room-piece-one : (image : List ℕ) (place : ℕ) (before a b : List ℤ) (c d : ℕ) → Coded (StepSays image place) (stepListed before) (out c a) → Coded (StepSays image place) (stepListed before) (out d b) → (c ≡ d) × (a ≡ b)
+room-piece-one image place before a b c d = coded-list (StepSays image place) (stepListed before) a b c d (room.step-one image place)
+
+pub room-verdicts-one : (r : Run) (image before a b : List ℕ) (c d : ℕ) → Coded (VerdictsSay r image before a) countedCode c → Coded (VerdictsSay r image before b) countedCode d → (c ≡ d) × (a ≡ b)
+room-verdicts-one r image before a b c d = coded-lent (VerdictsSay r image before) countedCode a b c d (room.verdicts-one r image before a b)
+
+pub ask-one : (r : Run) (k : Piece) (before a b : List ℕ) (c d : ℕ) → Coded (AskSays before a r k) askedCode c → Coded (AskSays before b r k) askedCode d → (c ≡ d) × (a ≡ b)
+ask-one r k before a b c d = coded-lent (λ l. AskSays before l r k) askedCode a b c d (λ x y h g. (book.one-answer before a b r k x y h g, book.one-book before a b r k x y h g))
+
+-- ---- exported numbers
+pub take-one : (x : Float) (g h i : ℤ) (u v w : Float) (c d : ℕ) → Coded (Answer x) (takenOne g u) (one c h v) → Coded (Answer x) (takenOne g u) (one d i w) → (c ≡ d) × (h ≡ i) × (v ≡ w)
+take-one x g h i u v w c d m n =
+    let e = coded-one (Answer x) (takenOne g u) (one c h v) (one d i w) (one-answer x) m n in
+    (ap (λ (o : One). o .code) e, ap (λ (o : One). o .grid) e, ap (λ (o : One). o .floor) e)
+
+sharp-export : (xs : List Float) (size : ℕ) → AllSharp (exportChecks xs size)
+unfolding exportChecks
+sharp-export xs size = (sharp-demand (length xs % 2 ≡ 0) (refuse 5 0 0), sharp-intake (corners xs) (length xs / 2) size)
+
+-- a list that was filled is filled in one way
+later-one : (xs : List Float) (before a b : List ℤ) (r : Checked) → Exported xs before a r → Exported xs before b r → a ≡ b
+unfolding exportChecks
+later-one xs before a b (Refused x) h k = h .list ∙ sym (k .list)
+later-one xs before a b Good h k =
+    one-intake (corners xs) (length xs / 2) before a b Good Good (record { finds = h .finds .1; list = h .list }) (record { finds = k .finds .1; list = k .list }) .1
+
+exported-one : (xs : List Float) (before a b : List ℤ) (r s : Checked) → Exported xs before a r → Exported xs before b s → (r ≡ s) × (a ≡ b)
+exported-one xs before a b r s h k =
+    let e = finds-one (exportChecks xs (length before)) (sharp-export xs (length before)) r s (h .finds) (k .finds) in
+    (e, later-one xs before a b s (subst (λ (q : Checked). Exported xs before a q) e h) k)
+
+pub intake-one : (xs : List Float) (before a b : List ℤ) (c d : ℕ) → Coded (Exported xs before a) checkedCode c → Coded (Exported xs before b) checkedCode d → (c ≡ d) × (a ≡ b)
+intake-one xs before a b c d = coded-lent (Exported xs before) checkedCode a b c d (exported-one xs before a b)

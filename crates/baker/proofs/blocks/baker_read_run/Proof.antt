@@ -1,0 +1,66 @@
+-- `baker_read_run` meets its contract. Assumes nothing.
+use mathlib.Core.Path.{sym, ap, subst, _∙_}
+use Prim.Native.Nat.{ℕ}
+use denote.Ref.{now}
+use Rattle.piece.specs.Numbers.{runOf}
+use Rattle.block.specs.declared.RunRead.the-variants.{Found}
+use Rattle.block.specs.Reading.{RunSays}
+use Rattle.block.proofs.RunLaws.{good-ticks}
+use Rattle.baker.specs.Listed.{out, runListed}
+use borrow.Author.Needs.{needs}
+use Rattle.baker.proofs.blocks.baker_read_run.Statement.{statement}
+use Rattle.baker.proofs.blocks.baker_read_run.Tie as tie
+
+found : (c : tie.After-run) → RunSays (now (c .before .before .before .before .args .block)) (Found (c .run .given .0 .0))
+found c = subst (RunSays (now (c .before .before .before .before .args .block))) (c .run .given .1) (c .before .before .read-run .ensures)
+
+read-run-requires : tie.Need-read-run-requires
+read-run-requires c κs = search needs
+
+enum-known-x : tie.Need-enum-known-x
+enum-known-x c = search needs
+
+refusal-requires : tie.Need-refusal-requires
+refusal-requires c κs = search needs
+
+enum-known-run : tie.Need-enum-known-run
+enum-known-run c = search needs
+
+put-run-requires : tie.Need-put-run-requires
+put-run-requires c κs = let g = c .before .before .run .given in good-ticks (runOf (g .0 .0)) (found (c .before .before) .0)
+
+returns : tie.Need-returns
+returns c =
+    let s = c .before .before .before .before .before .before in
+    let b = now (s .args .numbers) in
+    let k = c .before .before .before .before .read-run in
+    record {
+      answer = k .result;
+      says = k .ensures;
+      code = ap (λ (n : ℕ). out n b) (c .refusal .ensures) ∙ sym (ap (runListed b) (c .before .before .x .given .1));
+    }
+
+same-length : tie.Need-same-length
+same-length c = search needs
+
+returns-2 : tie.Need-returns-2
+returns-2 c =
+    let r = c .before .before .before .before in
+    record {
+      answer = Found (r .run .given .0 .0);
+      says = found r;
+      code = c .before .put-run .ensures;
+    }
+
+pub baker-read-run-spec : {M : Type 1} → statement M
+baker-read-run-spec =
+    tie.close
+    (tie.spec
+    read-run-requires
+    enum-known-x
+    refusal-requires
+    enum-known-run
+    put-run-requires
+    returns
+    same-length
+    returns-2)

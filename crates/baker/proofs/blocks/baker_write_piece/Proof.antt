@@ -1,0 +1,34 @@
+-- `baker_write_piece` meets its contract. Assumes nothing.
+use mathlib.Core.Path.{subst}
+use denote.Ref.{now}
+use Rattle.rules.specs.Reach.{Piece}
+use Rattle.block.specs.Layout.{pieceBlock}
+use Rattle.block.specs.Reading.{pieceAsked, Writes}
+use Rattle.baker.proofs.Back.{piece-back}
+use borrow.Author.Needs.{needs}
+use Rattle.baker.proofs.blocks.baker_write_piece.Statement.{statement}
+use Rattle.baker.proofs.blocks.baker_write_piece.Tie as tie
+
+write-piece-requires : tie.Need-write-piece-requires
+write-piece-requires c κs = search needs
+
+checked-requires : tie.Need-checked-requires
+checked-requires c κs = search needs
+
+same-length : tie.Need-same-length
+same-length c = search needs
+
+returns : tie.Need-returns
+returns c =
+    let w = c .before .before .before in
+    let s = w .before .before .before in
+    let f = s .fits in
+    record {
+      answer = w .write-piece .result;
+      says = subst (λ (k : Piece). Writes (pieceAsked (now (s .args .block)) k) (pieceBlock k) (now (s .args .block)) (w .write-piece .last .1 .1 .0) (w .write-piece .result)) (piece-back (f .bottom) (f .top) (f .vx) (f .vy) (f .vz)) (w .write-piece .ensures);
+      code = c .checked .ensures;
+    }
+
+pub baker-write-piece-spec : {M : Type 1} → statement M
+baker-write-piece-spec =
+    tie.close (tie.spec write-piece-requires checked-requires same-length returns)

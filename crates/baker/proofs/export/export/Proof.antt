@@ -1,0 +1,41 @@
+-- `baker::export::export` meets its contract. Assumes nothing.
+use mathlib.Core.Path.{refl}
+use mathlib.Core.Logic.{inl, inr}
+use native.Mathlib.Omega.{arith}
+use denote.Ref.{now}
+use Rattle.rules.specs.Reach.{Corners}
+use Rattle.intake.specs.Footprint.{intakeChecks}
+use Rattle.baker.specs.Export.{exportChecks}
+use Rattle.baker.proofs.Pairs.{exported}
+use borrow.Author.Needs.{needs}
+use Rattle.baker.proofs.export.export.Statement.{statement}
+use Rattle.baker.proofs.export.export.Tie as tie
+
+returns : tie.Need-returns
+unfolding exportChecks
+returns c = record { finds = inl (c .if1 .taken, refl); list = refl }
+
+returns-2 : tie.Need-returns-2
+unfolding exportChecks intakeChecks
+returns-2 c = record { finds = inr (c .before .if1 .left, inl ((λ h. absurd (omega (arith, h .most, c .if2 .taken))), refl)); list = refl }
+
+corners-of-requires : tie.Need-corners-of-requires
+corners-of-requires c κs = search needs
+
+intake-requires : tie.Need-intake-requires
+intake-requires c κs = search needs
+
+same-length : tie.Need-same-length
+same-length c = search needs
+
+returns-3 : tie.Need-returns-3
+returns-3 c =
+    let k = c .before .before .before in
+    let e = k .before .before in
+    let s = e .before .before in
+    exported (now (s .args .numbers)) (k .corners-of .result) (now (s .args .list)) (c .before .intake .last .1 .1 .0) (c .before .intake .result) (e .if1 .left) (k .corners-of .ensures) (c .before .intake .ensures)
+
+pub export-spec : {M : Type 1} → statement M
+export-spec =
+    tie.close
+    (tie.spec returns returns-2 corners-of-requires intake-requires same-length returns-3)

@@ -1,0 +1,111 @@
+-- `baker::list::put_piece` meets its contract. Assumes nothing.
+use mathlib.Core.Path.{_≡_, refl, sym, ap, _∙_}
+use mathlib.Core.List.{List, [], _∷_}
+use Prim.Native.Nat.{ℕ, _*_}
+use native.Mathlib.Omega.{arith}
+use denote.Ref.{now}
+use lib.IntN.{ℤ}
+use lib.ListN.{length, take}
+use lib.Seq.{paste, length-take-le}
+use mir.Syntax.{w32}
+use Rattle.whole.proofs.Range.{field}
+use Rattle.piece.specs.declared.Band.{Band}
+use Rattle.piece.specs.Numbers.{pieceOf}
+use Rattle.block.specs.Layout.{pieceNumbers}
+use Rattle.block.specs.declared.PieceRead.{PieceRead}
+use Rattle.baker.specs.Listed.{out, pieceFound}
+use Rattle.baker.proofs.Back.{back}
+use Rattle.baker.proofs.Listed.{long, short, laid-two}
+use borrow.Author.Needs.{needs}
+use Rattle.baker.proofs.list.put_piece.Statement.{statement}
+use Rattle.baker.proofs.list.put_piece.Tie as tie
+
+abbrev five : Band → List ℤ
+five b = b .bottom ∷ b .top ∷ b .vx ∷ b .vy ∷ b .vz ∷ []
+
+same : (s : tie.Start) → let k = s .args .read .band in five (record { bottom = back (k .bottom); top = back (k .top); vx = back (k .vx); vy = back (k .vy); vz = back (k .vz) }) ≡ five k
+same s =
+    let k = s .args .read .band in
+    rw (field w32 (k .bottom) (omega arith), field w32 (k .top) (omega arith), field w32 (k .vx) (omega arith), field w32 (k .vy) (omega arith), field w32 (k .vz) (omega arith))
+
+abbrev rest : PieceRead → List ℤ
+rest r = take (2 * r .count) (r .corners)
+
+abbrev numbers : PieceRead → List ℤ
+numbers r = pieceNumbers (pieceOf (r .band) (rest r))
+
+enum-known-found : tie.Need-enum-known-found
+enum-known-found c = search needs
+
+refusal-requires : tie.Need-refusal-requires
+refusal-requires c κs = search needs
+
+returns : tie.Need-returns
+returns c =
+    let s = c .before .before .before .before in
+    let b = now (s .args .list) in
+    ap (λ (k : ℕ). out k b) (c .refusal .ensures) ∙ sym (ap (pieceFound b (s .args .read)) (c .before .before .found .given .1))
+
+enum-told : tie.Need-enum-told
+enum-told c = search needs
+
+refusal-requires-2 : tie.Need-refusal-requires-2
+refusal-requires-2 c κs = search needs
+
+returns-2 : tie.Need-returns-2
+returns-2 c =
+    let s = c .before .before .before .before in
+    let b = now (s .args .list) in
+    let r = s .args .read in
+    ap (λ (k : ℕ). out k b) (c .refusal2 .ensures) ∙ sym (short 133 b (r .count) (numbers r) (c .before .if1 .taken)) ∙ sym (ap (pieceFound b r) (c .before .before .enum-told .given .1))
+
+slice-aggregate-put : tie.Need-slice-aggregate-put
+slice-aggregate-put c = search needs
+
+put-requires : tie.Need-put-requires
+put-requires c κs = search needs
+
+mul-corners : tie.Need-mul-corners
+mul-corners c = search needs
+
+array-share-prefix-corners : tie.Need-array-share-prefix-corners
+array-share-prefix-corners c = c .before .before .before .before .before .before .before .before .before .before .pre .corners
+
+slice-aggregate-put-2 : tie.Need-slice-aggregate-put-2
+slice-aggregate-put-2 c = sym (length-take-le _ _ (array-share-prefix-corners (c .before)))
+
+put-requires-2 : tie.Need-put-requires-2
+put-requires-2 c κs = let h = c .before .before .before .before .before .before .before .before .before .before .before .before .pre in let e = slice-aggregate-put-2 (c .before) in omega (arith, e, c .before .before .before .before .put .kept)
+
+same-length : tie.Need-same-length
+same-length c = search needs
+
+returns-3 : tie.Need-returns-3
+returns-3 c =
+    let q = c .before .before .before .before .before .before in
+    let e = q .before .before .before .before .before in
+    let s = e .before .before .before in
+    let b = now (s .args .list) in
+    let r = s .args .read in
+    ap (out (r .count)) (c .before .put2 .ensures ∙ ap (λ (l : List ℤ). paste l 5 (rest r) (length (rest r))) (q .put .ensures ∙ ap (λ (l : List ℤ). paste b 0 l 5) (same s)) ∙ laid-two b (five (r .band)) (rest r))
+    ∙ sym (long 133 b (r .count) (numbers r) (e .if1 .left))
+    ∙ sym (ap (pieceFound b r) (e .before .enum-told .given .1))
+
+pub put-piece-spec : {M : Type 1} → statement M
+put-piece-spec =
+    tie.close
+    (tie.spec
+    enum-known-found
+    refusal-requires
+    returns
+    enum-told
+    refusal-requires-2
+    returns-2
+    slice-aggregate-put
+    put-requires
+    mul-corners
+    array-share-prefix-corners
+    slice-aggregate-put-2
+    put-requires-2
+    same-length
+    returns-3)

@@ -1,0 +1,30 @@
+-- `baker_ask` meets its contract. Assumes nothing.
+use denote.Ref.{now}
+use Rattle.book.specs.Ask.{AskSays}
+use Rattle.baker.proofs.Back.{run-back, piece-back, both}
+use borrow.Author.Needs.{needs}
+use Rattle.baker.proofs.rooms.baker_ask.Statement.{statement}
+use Rattle.baker.proofs.rooms.baker_ask.Tie as tie
+
+ask-requires : tie.Need-ask-requires
+ask-requires c κs = search needs
+
+asked-requires : tie.Need-asked-requires
+asked-requires c κs = search needs
+
+same-length : tie.Need-same-length
+same-length c = search needs
+
+returns : tie.Need-returns
+returns c =
+    let w = c .before .before .before in
+    let s = w .before .before .before in
+    let f = s .fits in
+    record {
+      answer = w .ask .result;
+      says = both (λ r k. AskSays (now (s .args .book)) (w .ask .last .0) r k (w .ask .result)) (run-back (f .x) (f .y) (f .z) (f .vx) (f .vy) (f .vz)) (piece-back (f .bottom) (f .top) (f .ux) (f .uy) (f .uz)) (w .ask .ensures);
+      code = c .asked .ensures;
+    }
+
+pub baker-ask-spec : {M : Type 1} → statement M
+baker-ask-spec = tie.close (tie.spec ask-requires asked-requires same-length returns)

@@ -1,0 +1,65 @@
+-- What a call that reads into a lent list leaves there. Assumes nothing.
+use mathlib.Core.Bool.{cond}
+use mathlib.Core.List.{List, _++_}
+use Prim.Native.Nat.{ℕ, _*_, _≤_}
+use lib.Dec.{leb}
+use lib.IntN.{ℤ}
+use lib.ListN.{length, take, drop}
+use Rattle.rules.specs.Refusal.{Refusal, refuse}
+use Rattle.refusal.specs.Said.{said}
+use Rattle.refusal.specs.declared.Checked.{Checked}
+use Rattle.refusal.specs.declared.Checked.the-variants.{Good, Refused}
+use Rattle.piece.specs.Numbers.{runOf, pieceOf}
+use Rattle.block.specs.Layout.{runNumbers, pieceNumbers}
+use Rattle.block.specs.declared.RunRead.{RunRead}
+use Rattle.block.specs.declared.RunRead.the-variants.{Found, NoRun}
+use Rattle.block.specs.declared.PieceRead.{PieceRead}
+use Rattle.room.specs.Image.{saidIn}
+use Rattle.room.specs.Step.{pieceRead}
+use Rattle.room.specs.declared.Step.{Step}
+use Rattle.room.specs.declared.Found as room
+use Rattle.room.specs.declared.Found.the-variants as found
+use Rattle.baker.specs.Coded.{refusalCode}
+
+-- a code, and what the lent list holds afterwards
+pub record Out : Type 0 where
+  pub code : ℕ
+  pub list : List ℤ
+
+abbrev pub out : ℕ → List ℤ → Out
+out c l = record { code = c; list = l }
+
+-- a refusal, and the list as it was
+abbrev pub kept : List ℤ → Refusal → Out
+kept before s = out (refusalCode s) before
+
+-- numbers before what stands past them; a list that is shorter than it must be is refused with 10
+abbrev pub listed : ℕ → List ℤ → ℕ → List ℤ → Out
+listed least before c l = cond (leb least (length before)) (out c (l ++ drop (length l) before)) (kept before (refuse 10 0 0))
+
+-- x, y, z, the velocity and T
+abbrev pub runListed : List ℤ → RunRead → Out
+runListed before (Found r) = listed 7 before 0 (runNumbers (runOf r))
+runListed before (NoRun x) = kept before (said x)
+
+-- the corner count; bottom, top, the velocity and the corners
+abbrev pub pieceFound : List ℤ → PieceRead → Checked → Out
+pieceFound before r Good = listed 133 before (r .count) (pieceNumbers (pieceOf (r .band) (take (2 * r .count) (r .corners))))
+pieceFound before r (Refused x) = kept before (said x)
+
+abbrev pub pieceListed : List ℤ → PieceRead → Out
+pieceListed before r = pieceFound before r (r .found)
+
+-- a step of a reader: a piece that was read; 0 for the end, which needs no list
+abbrev pub stepFound : List ℤ → Step → room.Found → Out
+stepFound before s found.Piece = pieceListed before (pieceRead s)
+stepFound before s found.End = out 0 before
+stepFound before s (found.Refused x b) = kept before (saidIn x b)
+
+abbrev pub stepListed : List ℤ → Step → Out
+stepListed before s = stepFound before s (s .found)
+
+-- as many corners as a footprint has stand in the array
+pub record Holds (r : PieceRead) : Type 0 where
+  pub count : r .count ≤ 64
+  pub corners : 2 * r .count ≤ length (r .corners)

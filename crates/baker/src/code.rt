@@ -1,0 +1,107 @@
+// Each answer as one number.
+use block::HeaderRead;
+use book::Asked;
+use piece::Placed;
+use piece::Verdict;
+use refusal::Checked;
+use refusal::Refusal;
+use room::Counted;
+ghost use mathlib.Core.Path.{_≡_};
+ghost use Rattle.refusal.specs.Said.{said};
+ghost use Rattle.room.specs.Image.{saidIn};
+ghost use Rattle.baker.specs.Coded.{refusalCode, checkedCode, placedCode, verdictCode, headerCode, countedCode, askedCode};
+
+fn packed(number: u64, block: u64, a: u64, b: u64) -> u64
+    ensures { λ r. ⌜ r ≡ refusalCode (record { number = number; block = block; a = a; b = b }) ⌝ }
+{
+    let high = 0x8000_0000_0000_0000u64 + number % 0x100 * 0x1_0000_0000_0000;
+    let middle = high + block % 0x1_0000 * 0x1_0000_0000;
+    middle + a % 0x1_0000 * 0x1_0000 + b % 0x1_0000
+}
+
+// A refusal in a block of a room.
+pub(crate) fn refusal_in(x: Refusal, block: usize) -> u64
+    ensures { λ r. ⌜ r ≡ refusalCode (saidIn x block) ⌝ }
+{
+    let n = block as u64;
+    match x {
+        Refusal::Length => packed(1, n, 0, 0),
+        Refusal::Check => packed(2, n, 0, 0),
+        Refusal::Kind(a) => packed(3, n, a as u64, 0),
+        Refusal::Reach(a) => packed(4, n, a as u64, 0),
+        Refusal::Corners => packed(5, n, 0, 0),
+        Refusal::Same(a) => packed(6, n, a as u64, 0),
+        Refusal::Fold(a) => packed(7, n, a as u64, 0),
+        Refusal::Meet(a, b) => packed(8, n, a as u64, b as u64),
+        Refusal::Clockwise => packed(9, n, 0, 0),
+        Refusal::Short => packed(10, n, 0, 0),
+        Refusal::NotNumber(a, b) => packed(11, n, a as u64, b as u64),
+        Refusal::Beyond(a, b) => packed(12, n, a as u64, b as u64),
+        Refusal::OffGrid(a, b) => packed(13, n, a as u64, b as u64),
+    }
+}
+
+// Elsewhere its block is 0.
+pub(crate) fn refusal(x: Refusal) -> u64
+    ensures { λ r. ⌜ r ≡ refusalCode (said x) ⌝ }
+{
+    refusal_in(x, 0)
+}
+
+pub(crate) fn checked(r: Checked) -> u64
+    ensures { λ c. ⌜ c ≡ checkedCode r ⌝ }
+{
+    match r {
+        Checked::Good => 0,
+        Checked::Refused(x) => refusal(x),
+    }
+}
+
+pub(crate) fn placed(r: Placed) -> u64
+    ensures { λ c. ⌜ c ≡ placedCode r ⌝ }
+{
+    match r {
+        Placed::Outside => 0,
+        Placed::Inside => 1,
+        Placed::On => 2,
+        Placed::Refused(x) => refusal(x),
+    }
+}
+
+pub(crate) fn verdict(r: Verdict) -> u64
+    ensures { λ c. ⌜ c ≡ verdictCode r ⌝ }
+{
+    match r {
+        Verdict::Clear => 0xFFFF_FFFF,
+        Verdict::Mark(m) => m as u64,
+        Verdict::Refused(x) => refusal(x),
+    }
+}
+
+pub(crate) fn header(r: HeaderRead) -> u64
+    ensures { λ c. ⌜ c ≡ headerCode r ⌝ }
+{
+    match r {
+        HeaderRead::Count(n) => n as u64,
+        HeaderRead::NoHeader(x) => refusal(x),
+    }
+}
+
+pub(crate) fn counted(r: Counted) -> u64
+    ensures { λ c. ⌜ c ≡ countedCode r ⌝ }
+{
+    match r {
+        Counted::Count(n) => n as u64,
+        Counted::Refused(x, block) => refusal_in(x, block),
+    }
+}
+
+pub(crate) fn asked(r: Asked) -> u64
+    ensures { λ c. ⌜ c ≡ askedCode r ⌝ }
+{
+    match r {
+        Asked::Remembered(c) => 0x1_0000_0000 + c as u64,
+        Asked::Worked(c) => c as u64,
+        Asked::Refused(x) => refusal(x),
+    }
+}

@@ -1,0 +1,7 @@
+// The calls for C and Rust, over numbers and slices. specs/Coded.antt says how an answer is one number, specs/Listed.antt what a lent list holds.
+mod blocks;
+mod code;
+mod export;
+mod list;
+mod numbers;
+mod rooms;

@@ -1,0 +1,101 @@
+// Runs and pieces in plain numbers.
+use crate::code::checked;
+use crate::code::placed;
+use crate::code::verdict;
+use piece::Band;
+use piece::Run;
+ghost use Rattle.rules.specs.Good.{runChecks, pieceChecks};
+ghost use Rattle.refusal.specs.Said.{Finds};
+ghost use Rattle.piece.specs.Place.{pt, Lies};
+ghost use Rattle.piece.specs.Tells.{Tells};
+ghost use Rattle.baker.specs.Coded.{Coded, checkedCode, placedCode, verdictCode};
+ghost use Rattle.baker.specs.Given.{run, piece};
+
+#[no_mangle]
+pub extern "C" fn baker_check_run(
+    x: i32,
+    y: i32,
+    z: i32,
+    vx: i32,
+    vy: i32,
+    vz: i32,
+    ticks: u32,
+) -> u64
+    ensures { λ r. ⌜ Coded (Finds (runChecks (run x y z vx vy vz ticks))) checkedCode r ⌝ }
+{
+    let run = Run {
+        x,
+        y,
+        z,
+        vx,
+        vy,
+        vz,
+        ticks,
+    };
+    checked(piece::check_run(run))
+}
+
+#[no_mangle]
+pub extern "C" fn baker_check_piece(
+    bottom: i32,
+    top: i32,
+    vx: i32,
+    vy: i32,
+    vz: i32,
+    corners: &[i32],
+) -> u64
+    ensures { λ r. ⌜ Coded (Finds (pieceChecks (piece bottom top vx vy vz (now (corners .entry))))) checkedCode r ⌝ }
+{
+    let band = Band {
+        bottom,
+        top,
+        vx,
+        vy,
+        vz,
+    };
+    checked(piece::check_piece(band, corners))
+}
+
+#[no_mangle]
+pub extern "C" fn baker_place(x: i32, y: i32, corners: &[i32]) -> u64
+    ensures { λ r. ⌜ Coded (Lies (pt x y) (now (corners .entry))) placedCode r ⌝ }
+{
+    placed(piece::place(x, y, corners))
+}
+
+#[no_mangle]
+pub extern "C" fn baker_verdict(
+    x: i32,
+    y: i32,
+    z: i32,
+    vx: i32,
+    vy: i32,
+    vz: i32,
+    ticks: u32,
+    bottom: i32,
+    top: i32,
+    ux: i32,
+    uy: i32,
+    uz: i32,
+    corners: &[i32],
+) -> u64
+    ensures { λ r. ⌜ Coded (Tells (run x y z vx vy vz ticks) (piece bottom top ux uy uz (now (corners .entry)))) verdictCode r ⌝ }
+{
+    let run = Run {
+        x,
+        y,
+        z,
+        vx,
+        vy,
+        vz,
+        ticks,
+    };
+    let band = Band {
+        bottom,
+        top,
+        vx: ux,
+        vy: uy,
+        vz: uz,
+    };
+    verdict(piece::verdict(run, band, corners))
+}

@@ -1,0 +1,103 @@
+// Rooms, and the book of remembered verdicts.
+use crate::code::asked;
+use crate::code::counted;
+use crate::code::refusal_in;
+use crate::list::put_piece;
+use block::PieceRead;
+use piece::Band;
+use piece::Run;
+use refusal::Checked;
+use room::Found;
+ghost use Rattle.room.specs.Step.{StepSays};
+ghost use Rattle.room.specs.Verdicts.{VerdictsSay};
+ghost use Rattle.book.specs.Ask.{AskSays};
+ghost use Rattle.baker.specs.Coded.{Coded, countedCode, askedCode};
+ghost use Rattle.baker.specs.Given.{run, piece};
+ghost use Rattle.baker.specs.Listed.{out, stepListed};
+
+#[no_mangle]
+pub extern "C" fn baker_room_piece(image: &[u8], place: usize, numbers: &mut [i32]) -> u64
+    ensures { λ r. ⌜ Coded (StepSays (now (image .entry)) place) (stepListed (now (numbers .entry))) (out r (now (numbers .exit))) ⌝ }
+{
+    let step = room::piece_at(image, place);
+    let found = step.found;
+    match found {
+        Found::End => 0,
+        Found::Refused(x, block) => refusal_in(x, block),
+        Found::Piece => {
+            let band = step.band;
+            let corners = step.corners;
+            let read = PieceRead {
+                found: Checked::Good,
+                band,
+                corners,
+                count: step.count,
+            };
+            put_piece(read, numbers)
+        }
+    }
+}
+
+#[no_mangle]
+pub extern "C" fn baker_room_verdicts(
+    x: i32,
+    y: i32,
+    z: i32,
+    vx: i32,
+    vy: i32,
+    vz: i32,
+    ticks: u32,
+    image: &[u8],
+    list: &mut [u32],
+) -> u64
+    ensures { λ r. ⌜ Coded (VerdictsSay (run x y z vx vy vz ticks) (now (image .entry)) (now (list .entry)) (now (list .exit))) countedCode r ⌝ }
+{
+    let run = Run {
+        x,
+        y,
+        z,
+        vx,
+        vy,
+        vz,
+        ticks,
+    };
+    counted(room::verdicts(run, image, list))
+}
+
+#[no_mangle]
+pub extern "C" fn baker_ask(
+    book: &mut [u8],
+    x: i32,
+    y: i32,
+    z: i32,
+    vx: i32,
+    vy: i32,
+    vz: i32,
+    ticks: u32,
+    bottom: i32,
+    top: i32,
+    ux: i32,
+    uy: i32,
+    uz: i32,
+    corners: &[i32],
+) -> u64
+    ensures { λ r. ⌜ Coded (AskSays (now (book .entry)) (now (book .exit)) (run x y z vx vy vz ticks) (piece bottom top ux uy uz (now (corners .entry)))) askedCode r ⌝ }
+{
+    let run = Run {
+        x,
+        y,
+        z,
+        vx,
+        vy,
+        vz,
+        ticks,
+    };
+    let band = Band {
+        bottom,
+        top,
+        vx: ux,
+        vy: uy,
+        vz: uz,
+    };
+    asked(book::ask(book, run, band, corners))
+}

@@ -1,0 +1,189 @@
+/*
+ * The exact shadow baker: every public call, for C.
+ *
+ * Link with libbaker.a (x86-64 Linux). Every call takes every number, ends, keeps no state and
+ * allocates nothing; its contract stands beside its code in crates/baker/src, and crates/baker/proofs
+ * proves that no other answer would meet it.
+ *
+ * Units: grid units, grid units per tick, ticks; a mark is in 1/256 ticks.
+ *
+ * Lists: a pointer and then the number of elements. Corners are x, y, x, y ... A pointer is never
+ * null, not even where its length is 0, and what is lent for writing overlaps nothing else that is
+ * lent in the same call.
+ *
+ * Answers: one uint64_t.
+ *   Not refused: bit 63 is clear and the value stands in the low 32 bits, as said at each call
+ *   (baker_ask sets bit 32 besides).
+ *   Refused: bit 63 is set, bits 48 to 55 have the number, bits 32 to 47 the block, bits 16 to 31 the
+ *   place a, bits 0 to 15 the place b. The block is i + 1 where piece block i of a room is refused,
+ *   otherwise 0. Places that are not named are 0. Nothing that was lent changes.
+ *
+ *   number  given when                                              a, b
+ *    1      the length of a room, a book or a block is wrong
+ *    2      the check of a block is wrong
+ *    3      wrong kind, name, edition, a piece count over 126,      a: the first such byte
+ *           or an unnamed byte that is not zero
+ *    4      a number out of reach, or bottom above top              a: its byte offset in the block
+ *    5      not 3 to 64 corners, or an odd list
+ *    6      a corner equals the next                                a: the first such corner
+ *    7      two neighbouring edges fold                             a: the first corner where they do
+ *    8      two edges meet                                          a, b: the first pair, a below b
+ *    9      the footprint is clockwise
+ *   10      the lent list is too short
+ *   11      an exported number is not a number                      a: corner, b: 0 for x, 1 for y
+ *   12      an exported number is out of reach                      as 11
+ *   13      an exported number is off the grid                      as 11
+ */
+#ifndef BAKER_H
+#define BAKER_H
+
+#include <stddef.h>
+#include <stdint.h>
+
+#ifdef __cplusplus
+extern "C" {
+#endif
+
+#define BAKER_REFUSED(answer) ((int)((uint64_t)(answer) >> 63))
+#define BAKER_NUMBER(answer) ((unsigned)((uint64_t)(answer) >> 48 & 0xFF))
+#define BAKER_BLOCK(answer) ((unsigned)((uint64_t)(answer) >> 32 & 0xFFFF))
+#define BAKER_A(answer) ((unsigned)((uint64_t)(answer) >> 16 & 0xFFFF))
+#define BAKER_B(answer) ((unsigned)((uint64_t)(answer) & 0xFFFF))
+#define BAKER_VALUE(answer) ((uint32_t)((uint64_t)(answer) & 0xFFFFFFFF))
+#define BAKER_REMEMBERED(answer) ((int)((uint64_t)(answer) >> 32 & 1))
+
+/* A verdict that is clear: at no moment of the run does the point touch the piece. */
+#define BAKER_CLEAR UINT32_C(0xFFFFFFFF)
+
+/* ---- plain numbers ---- */
+
+/*
+ * Whether a run is good: start x, y, z, velocity vx, vy, vz, length in ticks.
+ * Value: 0. Refused: 4, at the offset that the number has in a run block.
+ */
+uint64_t baker_check_run(int32_t x, int32_t y, int32_t z, int32_t vx, int32_t vy, int32_t vz,
+                         uint32_t ticks);
+
+/*
+ * Whether a piece is good: its band, its velocity, its corners counterclockwise.
+ * Value: 0. Refused: 5, 4 (at the offset of a piece block), 6, 7, 8, 9, in this order.
+ */
+uint64_t baker_check_piece(int32_t bottom, int32_t top, int32_t vx, int32_t vy, int32_t vz,
+                           const int32_t *corners, size_t corners_len);
+
+/*
+ * Where the point (x, y) lies against a footprint.
+ * Value: 0 outside, 1 inside, 2 on. Refused: 4 at 2 or at 4 for the point, then the
+ * footprint's 5, 4, 6, 7, 8, 9.
+ */
+uint64_t baker_place(int32_t x, int32_t y, const int32_t *corners, size_t corners_len);
+
+/*
+ * The verdict of a run (x .. ticks) and a piece (bottom, top, velocity ux, uy, uz, corners).
+ * Value: the mark of the first contact, or BAKER_CLEAR. Refused: the run as baker_check_run, then the
+ * piece as baker_check_piece.
+ */
+uint64_t baker_verdict(int32_t x, int32_t y, int32_t z, int32_t vx, int32_t vy, int32_t vz,
+                       uint32_t ticks, int32_t bottom, int32_t top, int32_t ux, int32_t uy,
+                       int32_t uz, const int32_t *corners, size_t corners_len);
+
+/* ---- blocks of 512 bytes ---- */
+
+/*
+ * The header of a room of so many pieces, into a block.
+ * Value: 0, and the block is written whole. Refused: 1, 3 at 5; the block is as it was.
+ */
+uint64_t baker_write_header(uint32_t pieces, uint8_t *block, size_t block_len);
+
+/* Value: the piece count of a header. Refused: 1, 2, 3. */
+uint64_t baker_read_header(const uint8_t *block, size_t block_len);
+
+/*
+ * A run, into a block.
+ * Value: 0, and the block is written whole. Refused: 1, then as baker_check_run; the block is as it was.
+ */
+uint64_t baker_write_run(int32_t x, int32_t y, int32_t z, int32_t vx, int32_t vy, int32_t vz,
+                         uint32_t ticks, uint8_t *block, size_t block_len);
+
+/*
+ * A run from a block, into a list: x, y, z, vx, vy, vz, ticks; later elements stay.
+ * Value: 0. Refused: 1, 2, 3, 4; at last 10 where the list has fewer than 7 elements. The list is then
+ * as it was.
+ */
+uint64_t baker_read_run(const uint8_t *block, size_t block_len, int32_t *numbers,
+                        size_t numbers_len);
+
+/*
+ * A piece, into a block.
+ * Value: 0, and the block is written whole. Refused: 1, then as baker_check_piece; the block is as it
+ * was.
+ */
+uint64_t baker_write_piece(int32_t bottom, int32_t top, int32_t vx, int32_t vy, int32_t vz,
+                           const int32_t *corners, size_t corners_len, uint8_t *block,
+                           size_t block_len);
+
+/*
+ * A piece from a block, into a list: bottom, top, vx, vy, vz, then the corners, 5 + 2 * count numbers;
+ * later elements stay.
+ * Value: the corner count. Refused: 1, 2, 3, 5, 3, 4, 6, 7, 8, 9; at last 10 where the list has fewer
+ * than 133 elements. The list is then as it was.
+ */
+uint64_t baker_read_piece(const uint8_t *block, size_t block_len, int32_t *numbers,
+                          size_t numbers_len);
+
+/* ---- rooms: a header and then its pieces, 512 to 65024 bytes ---- */
+
+/*
+ * A step of a reader: the piece at a place, pieces from 0, into a list as baker_read_piece fills it.
+ * Value: the corner count, or 0 where the place is at or past the piece count: the end, which needs no
+ * list. Refused: 1, the header's 2 and 3, 1 where length and count differ, then that piece's block, at
+ * last 10. The list is then as it was. To walk a room, go on at place + 1 after each piece.
+ */
+uint64_t baker_room_piece(const uint8_t *image, size_t image_len, size_t place, int32_t *numbers,
+                          size_t numbers_len);
+
+/*
+ * The verdicts of a run on each piece of a room, into a list: for each piece its mark or BAKER_CLEAR;
+ * later elements stay.
+ * Value: the piece count. Refused: the run as baker_check_run, then the room: length, header, length
+ * against count, piece by piece; at last 10 where the list has fewer elements than the room pieces. The
+ * list is then as it was.
+ */
+uint64_t baker_room_verdicts(int32_t x, int32_t y, int32_t z, int32_t vx, int32_t vy, int32_t vz,
+                             uint32_t ticks, const uint8_t *image, size_t image_len, uint32_t *list,
+                             size_t list_len);
+
+/* ---- the book of remembered verdicts: 1 to 128 slots of 512 bytes; all zero is an empty book ---- */
+
+/*
+ * The verdict as baker_verdict gives it, remembered in the book: where the book has it, bit 32 is set
+ * and no byte changes; otherwise it is worked out and its home slot is written.
+ * Value: the mark, or BAKER_CLEAR. Refused: 1 for the book's length, then as baker_verdict; the book is
+ * then as it was.
+ */
+uint64_t baker_ask(uint8_t *book, size_t book_len, int32_t x, int32_t y, int32_t z, int32_t vx,
+                   int32_t vy, int32_t vz, uint32_t ticks, int32_t bottom, int32_t top, int32_t ux,
+                   int32_t uy, int32_t uz, const int32_t *corners, size_t corners_len);
+
+/* ---- exported numbers: binary32, one unit is 16 grid units, from -1024 to 1024 ---- */
+
+/*
+ * One number.
+ * Value: 0 taken, and *grid is its grid number; 1 off the grid, and *floor is the grid value at or below
+ * it, in the export's unit; 2 not a number; 3 out of reach. What is not named stays. Never refused.
+ */
+uint64_t baker_take(float x, int32_t *grid, float *floor);
+
+/*
+ * A footprint x, y, x, y ... into a list of grid numbers; later elements stay.
+ * Value: 0. Refused: 5 for an odd list or not 3 to 64 corners, 10 where the list is shorter than the
+ * export, then 11, 12, 13 by the first number that cannot be taken. The list is then as it was. The
+ * footprint itself is not checked: see baker_check_piece.
+ */
+uint64_t baker_intake(const float *numbers, size_t numbers_len, int32_t *list, size_t list_len);
+
+#ifdef __cplusplus
+}
+#endif
+
+#endif
