@@ -6,7 +6,6 @@ use lib.IntN.{ℤ}
 use mir.Syntax.{w32}
 use mir.Val.{SFits, toZ, ofZ}
 use mir.Facts.{toZ-ofZ}
-use Rattle.rules.specs.Ring.{Pt}
 use Rattle.piece.specs.Place.{pt}
 use Rattle.baker.specs.Given.{run, piece}
 

@@ -1,5 +1,5 @@
 -- An export as corners: an intake looks at no corner past its count, and an export's corners are its pairs. Assumes nothing.
-use mathlib.Core.Path.{_≡_, refl, sym, ap, subst, _∙_}
+use mathlib.Core.Path.{_≡_, refl, sym, subst, _∙_}
 use mathlib.Core.Logic.{⊎-elim}
 use mathlib.Core.List.{List, [], _∷_, _++_}
 use Prim.Native.Nat.{ℕ, zero, suc, _+_, _*_, _/_, _%_, _≤_, _<_}
@@ -18,7 +18,7 @@ use Rattle.refusal.proofs.Finds.{finds-after}
 use Rattle.intake.specs.declared.Corner.{Corner}
 use Rattle.intake.specs.declared.Taken.the-variants.{Grid}
 use Rattle.intake.specs.Number.{Answer}
-use Rattle.intake.specs.Footprint.{cornerAt, cornerChecks, cornersChecks, intakeChecks, Holds, Later, Intake}
+use Rattle.intake.specs.Footprint.{cornerAt, cornerChecks, cornersChecks, intakeChecks, Later, Intake}
 use Rattle.baker.specs.Export.{corners, exportChecks, Exported, Paired}
 
 -- corner i of an export

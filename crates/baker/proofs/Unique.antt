@@ -1,5 +1,5 @@
 -- Two outcomes of a call that both meet its contract are equal: the number that comes back, and what was lent. Assumes nothing.
-use mathlib.Core.Path.{_≡_, refl, sym, ap, subst, _∙_}
+use mathlib.Core.Path.{_≡_, sym, ap, subst, _∙_}
 use mathlib.Core.List.{List}
 use Prim.Native.Nat.{ℕ, _/_, _%_}
 use lib.IntN.{ℤ}
@@ -24,7 +24,6 @@ use Rattle.block.specs.Layout.{headerBlock, runBlock, pieceBlock}
 use Rattle.block.specs.Reading.{headerAsked, runAsked, pieceAsked, HeaderSays, RunSays, PieceSays, Writes}
 use Rattle.block.proofs.Unique as block
 use Rattle.intake.specs.Number.{Answer}
-use Rattle.intake.specs.Footprint.{intakeChecks, Later}
 use Rattle.intake.proofs.Once.{one-answer, one-intake, sharp-intake}
 use Rattle.room.specs.Step.{StepSays}
 use Rattle.room.specs.Verdicts.{VerdictsSay}

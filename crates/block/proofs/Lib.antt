@@ -11,3 +11,4 @@ pub mod Sharp
 pub mod Unique
 pub mod Words
 pub mod Zero
+pub mod Pairs

@@ -3,7 +3,6 @@ use mathlib.Core.Path.{refl}
 use mathlib.Core.Logic.{inl, inr}
 use native.Mathlib.Omega.{arith}
 use denote.Ref.{now}
-use Rattle.rules.specs.Reach.{Corners}
 use Rattle.intake.specs.Footprint.{intakeChecks}
 use Rattle.baker.specs.Export.{exportChecks}
 use Rattle.baker.proofs.Pairs.{exported}

@@ -1,59 +1,32 @@
--- `block::fill::fill` meets its contract. The loop's invariant: the bytes passed are the front's. Assumes nothing.
-use mathlib.Core.Path.{_≡_}
-use Prim.Native.Nat.{ℕ, _-_, _≤_, _<_}
-use borrow.Author.Count.{below-none}
-use borrow.Author.Needs.{needs}
+-- `block::fill::fill` meets its contract: the front, and zeros after it. Assumes nothing.
+use mathlib.Core.Path.{_≡_, sym, _∙_}
+use mathlib.Core.Logic.{⊎-elim}
+use Prim.Native.Nat.{ℕ, _≤_, _<_}
 use native.Mathlib.Omega.{arith}
-use lib.ListN.{length, length-set}
-use denote.Ref.{now}
-use Rattle.block.specs.Layout.{byte}
-use Rattle.block.proofs.Bytes.{stored}
+use borrow.Author.Needs.{needs}
+use lib.ListN.{length, List·getD-eq-default}
+use Rattle.whole.proofs.Order.{ℕ-or}
 use Rattle.block.proofs.fill.fill.Statement.{statement}
 use Rattle.block.proofs.fill.fill.Tie as tie
 
-abbrev Inv-loop : tie.InvT-loop
-Inv-loop front block₀ i₀ block i = (length block ≡ 512) × (i ≤ 510) × ((k : ℕ) → k < i → byte block k ≡ byte front k)
+copy-requires : tie.Need-copy-requires
+copy-requires c κs = search needs
 
-abbrev μ-loop : tie.MeasureT-loop
-μ-loop front block₀ i₀ block i = 510 - i
+clear-requires : tie.Need-clear-requires
+clear-requires c κs = search needs
 
-loop-holds : tie.Need-loop-holds Inv-loop μ-loop
-loop-holds c = (search needs, omega arith, below-none _)
+same-length : tie.Need-same-length
+same-length c = search needs
 
-byte-at-requires : tie.Need-byte-at-requires Inv-loop μ-loop
-byte-at-requires c κs = search needs
-
-slice-write-block : tie.Need-slice-write-block Inv-loop μ-loop
-slice-write-block c = omega arith
-
-add-i : tie.Need-add-i Inv-loop μ-loop
-add-i c = omega arith
-
-loop-less : tie.Need-loop-less Inv-loop μ-loop
-loop-less c = omega arith
-
-loop-again : tie.Need-loop-again Inv-loop μ-loop
-loop-again c =
-    let v = c .before .before .loop in
-    (simp length-set (v .inv .0), omega arith, stored 0 (v .block) (now (c .before .before .before .before .before .args .front)) (v .i) _ (omega arith) (v .inv .2) (c .byte-at .ensures))
-
-same-length : tie.Need-same-length Inv-loop μ-loop
-same-length c = omega arith
-
-returns : tie.Need-returns Inv-loop μ-loop
-returns c = (c .before .loop .inv .0, λ i h. c .before .loop .inv .2 i (omega arith))
+returns : tie.Need-returns
+returns c =
+    let d = c .before .before .clear in
+    let e = c .before .before .before .before .before .before .copy in
+    let l = c .before .before .before .before .before .before .before .before .before .before .args .front .now in
+    (d .ensures .0, λ i h. ⊎-elim
+        (λ (g : length l ≤ i). d .ensures .1 .1 i g h ∙ sym (List·getD-eq-default l 0 {n = i} g))
+        (λ (g : i < length l). d .ensures .1 .0 i g ∙ e .ensures .1 i g)
+        (ℕ-or (length l) i))
 
 pub fill-spec : {M : Type 1} → statement M
-fill-spec =
-    tie.close
-    (tie.spec
-    Inv-loop
-    μ-loop
-    loop-holds
-    byte-at-requires
-    slice-write-block
-    add-i
-    loop-less
-    loop-again
-    same-length
-    returns)
+fill-spec = tie.close (tie.spec copy-requires clear-requires same-length returns)

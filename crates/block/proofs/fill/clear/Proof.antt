@@ -1,0 +1,53 @@
+-- `block::fill::clear` meets its contract. The loop's invariant: zeros from where it began, and what was before. Assumes nothing.
+use mathlib.Core.Path.{_≡_, refl, _∙_}
+use Prim.Native.Nat.{ℕ, _-_, _≤_, _<_}
+use borrow.Author.Needs.{needs}
+use native.Mathlib.Omega.{arith}
+use lib.ListN.{length, length-set}
+use Rattle.block.specs.Layout.{byte}
+use Rattle.block.proofs.Pairs.{elsewhere, cleared}
+use Rattle.block.proofs.fill.clear.Statement.{statement}
+use Rattle.block.proofs.fill.clear.Tie as tie
+
+abbrev Inv-loop : tie.InvT-loop
+Inv-loop block₀ from i₀ block i = (length block ≡ 512) × (from ≤ i) × (i ≤ 510) × ((k : ℕ) → k < from → byte block k ≡ byte block₀ k) × ((k : ℕ) → from ≤ k → k < i → byte block k ≡ 0)
+
+abbrev μ-loop : tie.MeasureT-loop
+μ-loop block₀ from i₀ block i = 510 - i
+
+loop-holds : tie.Need-loop-holds Inv-loop μ-loop
+loop-holds c = (search needs, omega arith, omega arith, λ k h. refl, λ k g h. absurd (omega arith))
+
+slice-write-block : tie.Need-slice-write-block Inv-loop μ-loop
+slice-write-block c = omega arith
+
+add-i : tie.Need-add-i Inv-loop μ-loop
+add-i c = omega arith
+
+loop-less : tie.Need-loop-less Inv-loop μ-loop
+loop-less c = omega arith
+
+loop-again : tie.Need-loop-again Inv-loop μ-loop
+loop-again c =
+    let v = c .before .loop in
+    (simp length-set (v .inv .0), omega arith, omega arith, λ k h. elsewhere (v .block) (v .i) k 0 (λ e. omega arith) ∙ v .inv .3 k h, cleared (v .block) _ (v .i) (omega arith) (v .inv .4))
+
+same-length : tie.Need-same-length Inv-loop μ-loop
+same-length c = omega arith
+
+returns : tie.Need-returns Inv-loop μ-loop
+returns c = (c .before .loop .inv .0, (c .before .loop .inv .3, λ i g h. c .before .loop .inv .4 i g (omega arith)))
+
+pub clear-spec : {M : Type 1} → statement M
+clear-spec =
+    tie.close
+    (tie.spec
+    Inv-loop
+    μ-loop
+    loop-holds
+    slice-write-block
+    add-i
+    loop-less
+    loop-again
+    same-length
+    returns)

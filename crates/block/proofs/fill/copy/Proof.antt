@@ -1,0 +1,59 @@
+-- `block::fill::copy` meets its contract. The loop's invariant: the bytes passed are the front's. Assumes nothing.
+use mathlib.Core.Path.{_≡_, refl}
+use Prim.Native.Nat.{ℕ, _-_, _≤_, _<_}
+use borrow.Author.Count.{below-none}
+use borrow.Author.Needs.{needs}
+use native.Mathlib.Omega.{arith}
+use lib.ListN.{length, length-set}
+use denote.Ref.{now}
+use Rattle.block.specs.Layout.{byte}
+use Rattle.block.proofs.Bytes.{stored}
+use Rattle.block.proofs.fill.copy.Statement.{statement}
+use Rattle.block.proofs.fill.copy.Tie as tie
+
+abbrev Inv-loop : tie.InvT-loop
+Inv-loop front block₀ i₀ block i = (length block ≡ 512) × (i ≤ length front) × ((k : ℕ) → k < i → byte block k ≡ byte front k)
+
+abbrev μ-loop : tie.MeasureT-loop
+μ-loop front block₀ i₀ block i = length front - i
+
+loop-holds : tie.Need-loop-holds Inv-loop μ-loop
+loop-holds c = (search needs, omega arith, below-none _)
+
+shared-slice-read-block : tie.Need-shared-slice-read-block Inv-loop μ-loop
+shared-slice-read-block c = omega arith
+
+slice-write-block : tie.Need-slice-write-block Inv-loop μ-loop
+slice-write-block c = omega arith
+
+add-i : tie.Need-add-i Inv-loop μ-loop
+add-i c = omega arith
+
+loop-less : tie.Need-loop-less Inv-loop μ-loop
+loop-less c = omega arith
+
+loop-again : tie.Need-loop-again Inv-loop μ-loop
+loop-again c =
+    let v = c .before .before .loop in
+    (simp length-set (v .inv .0), omega arith, stored 0 (v .block) (c .before .before .before .args .front .now) (v .i) _ (omega arith) (v .inv .2) refl)
+
+same-length : tie.Need-same-length Inv-loop μ-loop
+same-length c = omega arith
+
+returns : tie.Need-returns Inv-loop μ-loop
+returns c = (c .before .loop .inv .0, λ i h. c .before .loop .inv .2 i (omega arith))
+
+pub copy-spec : {M : Type 1} → statement M
+copy-spec =
+    tie.close
+    (tie.spec
+    Inv-loop
+    μ-loop
+    loop-holds
+    shared-slice-read-block
+    slice-write-block
+    add-i
+    loop-less
+    loop-again
+    same-length
+    returns)
