@@ -3,6 +3,7 @@
 
 pub mod calls;
 pub mod code;
+pub mod floats;
 pub mod input;
 pub mod run;
 pub mod shade;

@@ -1,30 +1,9 @@
 //! every-float: the intake of one number, asked of the proved baker for all 2^32 bit patterns and
 //! compared with the second implementation. The first difference is told and ends it with status 1.
 
-use second::intake::Taken;
+use differ::floats::{proved, second};
 use std::process::ExitCode;
 use std::thread;
-
-/// The answer's number, and the bits of what it carries.
-type Told = (u64, u32);
-
-fn second(x: f32) -> Told {
-    match second::intake::take(x) {
-        Taken::Grid(k) => (0, k as u32),
-        Taken::OffGrid(w) => (1, w.to_bits()),
-        Taken::NotANumber => (2, 0),
-        Taken::OutOfReach => (3, 0),
-    }
-}
-
-fn proved(x: f32) -> Told {
-    let (mut grid, mut floor) = (0, 0.0);
-    match baker::coded::take(x, &mut grid, &mut floor) {
-        0 => (0, grid as u32),
-        1 => (1, floor.to_bits()),
-        other => (other, 0),
-    }
-}
 
 /// The first pattern of a part on which the two differ.
 fn difference(part: u64, parts: u64) -> Option<u32> {

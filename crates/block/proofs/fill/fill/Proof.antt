@@ -22,11 +22,13 @@ returns : tie.Need-returns
 returns c =
     let d = c .before .before .clear in
     let e = c .before .before .before .before .before .before .copy in
-    let l = c .before .before .before .before .before .before .before .before .before .before .args .front .now in
-    (d .ensures .0, λ i h. ⊎-elim
-        (λ (g : length l ≤ i). d .ensures .1 .1 i g h ∙ sym (List·getD-eq-default l 0 {n = i} g))
-        (λ (g : i < length l). d .ensures .1 .0 i g ∙ e .ensures .1 i g)
-        (ℕ-or (length l) i))
+    let l = c .before .before .before .before .before .before .before .before .before .before .args .front .now in (
+      d .ensures .0,
+      λ i h. ⊎-elim
+          (λ (g : length l ≤ i). d .ensures .1 .1 i g h ∙ sym (List·getD-eq-default l 0 {n = i} g))
+          (λ (g : i < length l). d .ensures .1 .0 i g ∙ e .ensures .1 i g)
+          (ℕ-or (length l) i),
+    )
 
 pub fill-spec : {M : Type 1} → statement M
 fill-spec = tie.close (tie.spec copy-requires clear-requires same-length returns)

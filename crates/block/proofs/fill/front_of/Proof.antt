@@ -68,11 +68,12 @@ loop-again : tie.Need-loop-again Inv-loop μ-loop
 loop-again c =
     let v = c .before .before .before .before .before .loop in
     let a = c .before .before .before .before .before .before .args in
-    let e = c .before .lay .ensures ∙ ap (λ z. set (set (v .front) (2 + 2 * v .j) (word z % 256)) (3 + 2 * v .j) (word z / 256)) (elem w32 (a .numbers .now) (v .j) (c .before .before .lay-arg .given)) in
-    (ap length e ∙ laid-length (a .kind) (a .second) (a .numbers .now) (v .front) (v .j) (v .inv .0) (omega arith),
-    omega arith,
-    subst (λ (l : List ℕ). (k : ℕ) → k < 2 + 2 * (v .j + 1) → byte l k ≡ byte (a .kind ∷ a .second ∷ words (a .numbers .now)) k) (sym e) (laid-right (a .kind) (a .second) (a .numbers .now) (v .front) (v .j) (v .inv .0) (omega arith) (v .inv .2)),
-    subst (λ (l : List ℕ). (k : ℕ) → 2 + 2 * (v .j + 1) ≤ k → byte l k ≡ 0) (sym e) (laid-zeros (a .kind) (a .second) (a .numbers .now) (v .front) (v .j) (v .inv .0) (omega arith) (v .inv .3)))
+    let e = c .before .lay .ensures ∙ ap (λ z. set (set (v .front) (2 + 2 * v .j) (word z % 256)) (3 + 2 * v .j) (word z / 256)) (elem w32 (a .numbers .now) (v .j) (c .before .before .lay-arg .given)) in (
+      ap length e ∙ laid-length (a .kind) (a .second) (a .numbers .now) (v .front) (v .j) (v .inv .0) (omega arith),
+      omega arith,
+      subst (λ (l : List ℕ). (k : ℕ) → k < 2 + 2 * (v .j + 1) → byte l k ≡ byte (a .kind ∷ a .second ∷ words (a .numbers .now)) k) (sym e) (laid-right (a .kind) (a .second) (a .numbers .now) (v .front) (v .j) (v .inv .0) (omega arith) (v .inv .2)),
+      subst (λ (l : List ℕ). (k : ℕ) → 2 + 2 * (v .j + 1) ≤ k → byte l k ≡ 0) (sym e) (laid-zeros (a .kind) (a .second) (a .numbers .now) (v .front) (v .j) (v .inv .0) (omega arith) (v .inv .3)),
+    )
 
 returns : tie.Need-returns Inv-loop μ-loop
 returns c =
