@@ -189,24 +189,6 @@ fn footprints(s: Score) -> Score {
         b"folded: 7 at 1",
         refused(piece::check_piece(band(0), &FOLDED)) == three(7, 1, 0),
     );
-    let none: [i32; 0] = [];
-    let s = more(
-        s,
-        b"no corner: 5",
-        refused(piece::check_piece(band(0), &none)) == three(5, 0, 0),
-    );
-    let odd = [0i32, 0, 64, 0, 64, 64, 0];
-    let s = more(
-        s,
-        b"seven numbers: 5",
-        refused(piece::check_piece(band(0), &odd)) == three(5, 0, 0),
-    );
-    let long = [0i32; 130];
-    let s = more(
-        s,
-        b"130 numbers: 5",
-        refused(piece::check_piece(band(0), &long)) == three(5, 0, 0),
-    );
     let reach = [-16384i32, -16384, 16384, -16384, 16384, 16384];
     let s = more(
         s,
@@ -219,6 +201,25 @@ fn footprints(s: Score) -> Score {
         b"one beyond: 4 at 20",
         refused(piece::check_piece(band(0), &over)) == three(4, 20, 0),
     )
+}
+
+fn miscounted(s: Score, name: &[u8], corners: &[i32]) -> Score {
+    more(
+        s,
+        name,
+        refused(piece::check_piece(band(0), corners)) == three(5, 0, 0),
+    )
+}
+
+fn lengths(s: Score) -> Score {
+    let none: [i32; 0] = [];
+    let s = miscounted(s, b"no number: 5", &none);
+    let s = miscounted(s, b"1 number: 5", &[0i32; 1]);
+    let s = miscounted(s, b"5 numbers: 5", &[0i32; 5]);
+    let s = miscounted(s, b"7 numbers: 5", &[0i32; 7]);
+    let s = miscounted(s, b"129 numbers: 5", &[0i32; 129]);
+    let s = miscounted(s, b"130 numbers: 5", &[0i32; 130]);
+    miscounted(s, b"1000 numbers: 5", &[0i32; 1000])
 }
 
 fn numbers(s: Score) -> Score {
@@ -247,7 +248,7 @@ fn numbers(s: Score) -> Score {
 
 fn main() {
     let s = Score { right: 0, all: 0 };
-    let s = numbers(footprints(places(runs(s))));
+    let s = numbers(lengths(footprints(places(runs(s)))));
     let s = books::books(s);
     io::print_decimal(STDOUT_FILENO, s.right as u64);
     io::write_all(STDOUT_FILENO, b" right of ");
