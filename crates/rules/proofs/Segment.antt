@@ -430,7 +430,3 @@ decide a b p q = first (sides (o a b p) (o a b q)) (sides (o p q a) (o p q b))
     first (opp m) (minus h k) = inl (right′ h k)
     first (opp m) (plus h k) = inl (left′ h k)
     first (opp m) (opp k) = crossing a b p q m k (tri (o a b p) (o a b q))
-
--- no common point: apart
-pub apart-of : (a b p q : Pt) → (Common a b p q → ⊥) → Apart a b p q
-apart-of a b p q f = ⊎-elim (λ h. h) (λ c. absurd (f c)) (decide a b p q)

@@ -8,7 +8,7 @@ use native.Mathlib.Nat.{mul-pos}
 use lib.Dec.{leb, le→leb, ltb→lt, lt→ltb}
 use lib.IntN.{ℤ, pos, negsuc, negℤ, _+ℤ_, _-ℤ_, _*ℤ_}
 use lib.Signed.{_≤ℤ_, _<ℤ_, leZ, ltZ}
-use Rattle.whole.proofs.Difference.{_⊖_, all, all2, all3, all4, all6, all8, ring}
+use Rattle.whole.proofs.Difference.{all, all2, all3, all4, ring}
 
 pub distrib : (a b c : ℤ) → a *ℤ (b +ℤ c) ≡ a *ℤ b +ℤ a *ℤ c
 distrib = all3 _ λ a a′ b b′ c c′. simp ring (omega arith)

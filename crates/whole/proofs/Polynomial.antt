@@ -216,10 +216,6 @@ nsuc-val ρ n = refl
 
 pub ruleset poly = (plus-val, times-val, minus-val)
 
-pub vars1 {ℓ} : (P : ℤ → Type ℓ) → ((ρ : List ℤ) → P (val ρ (var 0))) → (x0 : ℤ) → P x0
-unfolding val
-vars1 P f x0 = f (x0 ∷ [])
-
 pub vars2 {ℓ} : (P : ℤ → ℤ → Type ℓ) → ((ρ : List ℤ) → P (val ρ (var 0)) (val ρ (var 1))) → (x0 x1 : ℤ) → P x0 x1
 unfolding val
 vars2 P f x0 x1 = f (x0 ∷ x1 ∷ [])

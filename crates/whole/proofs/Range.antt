@@ -8,8 +8,7 @@ use lib.ListN.{length, getD}
 use mathlib.Core.List.{List, [], _∷_}
 use lib.Dec.{T, leb, ltb, leb→le, le→leb, ltb→lt, lt→ltb}
 use mathlib.Core.Bool.{Bool, true, false, _&&_}
-use Rattle.whole.proofs.Order.{clash}
-use Rattle.whole.proofs.Flag.{lt-true, lt-false, le-true, le-false}
+use Rattle.whole.proofs.Flag.{lt-true, lt-false}
 use lib.IntN.{ℤ, pos, negsuc, negℤ, natAbs, _+ℤ_, _-ℤ_, _*ℤ_}
 use lib.Signed.{_≤ℤ_, _<ℤ_, mag, leZ, ltZ, quotZ}
 use mir.Syntax.{Width, w8, w16, w32, w64, w128}
@@ -73,15 +72,6 @@ read w h e = toZ-ofZ (record { sfits = h }) ∙ e
 pub got : (w : Width) {r y z : ℤ} → mag r < 2 ^ hbits w → r ≡ y → y ≡ z → toZ w (ofZ w r) ≡ z
 got w h e f = toZ-ofZ (record { sfits = h }) ∙ (e ∙ f)
 
--- ---- the magnitude
-pub abs-below : (z : ℤ) → z <ℤ pos 0 → pos 0 -ℤ z ≡ pos (natAbs z)
-abs-below (pos n) h = absurd (clash (pos n) (pos 0) h (simp ring (omega arith)))
-abs-below (negsuc n) h = simp ring (omega arith)
-
-pub abs-above : (z : ℤ) → pos 0 ≤ℤ z → z ≡ pos (natAbs z)
-abs-above (pos n) h = refl
-abs-above (negsuc n) h = absurd (h .le)
-
 -- ---- the quotient of two that are not negative
 pub record Quot (n d : ℤ) : Type 0 where
   pub low : (quotZ n d *ℤ d) ≤ℤ n
@@ -109,12 +99,6 @@ module _ {w : Width} {x y : ℤ} (fx : SFits w x) (fy : SFits w y) where
 
   pub lt-no : ltZ (toZ w (ofZ w x)) (toZ w (ofZ w y)) ≡ false → y ≤ℤ x
   lt-no e = lt-false x y (rw (toZ-ofZ fx, toZ-ofZ fy) at e)
-
-  pub le-yes : leZ (toZ w (ofZ w x)) (toZ w (ofZ w y)) ≡ true → x ≤ℤ y
-  le-yes e = le-true x y (rw (toZ-ofZ fx, toZ-ofZ fy) at e)
-
-  pub le-no : leZ (toZ w (ofZ w x)) (toZ w (ofZ w y)) ≡ false → y <ℤ x
-  le-no e = le-false x y (rw (toZ-ofZ fx, toZ-ofZ fy) at e)
 
 -- an element of a slice, read
 pub elem : (w : Width) (l : List ℤ) (i : ℕ) → mag (getD l i (pos 0)) < 2 ^ hbits w → toZ w (ofZ w (getD l i (pos 0))) ≡ getD l i (pos 0)
