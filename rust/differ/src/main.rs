@@ -58,16 +58,29 @@ fn main() -> ExitCode {
     }
 }
 
+/// From here on every kind of answer must have come up.
+const MANY: u64 = 2_000;
+
 fn shade(program: &str, cases: Cases) -> bool {
     let began = Instant::now();
-    match differ::shade::compare(program, cases) {
-        Ok(()) => println!("shade: {} cases agree, {:.1} s", cases.cases, began.elapsed().as_secs_f64()),
+    let tally = match differ::shade::compare(program, cases) {
+        Ok(tally) => tally,
         Err(difference) => {
             print!("{difference}");
             return false;
         }
+    };
+    let counts: Vec<_> = tally.iter().map(|(kind, count)| format!("{kind}: {count}")).collect();
+    let seconds = began.elapsed().as_secs_f64();
+    println!("shade: {} cases agree, {seconds:.1} s   {}", cases.cases, counts.join(", "));
+    let mut all = true;
+    for kind in differ::shade::KINDS {
+        if cases.cases >= MANY && !tally.contains_key(kind) {
+            println!("shade: no case answers {kind}");
+            all = false;
+        }
     }
-    true
+    all
 }
 
 fn calls(wanted: &Wanted) -> bool {

@@ -3,6 +3,7 @@
 use crate::input::hex;
 use crate::run::Cases;
 use gen::{blocks, Rng};
+use std::collections::BTreeMap;
 use std::io::Write;
 use std::process::{Command, Stdio};
 
@@ -23,8 +24,27 @@ fn written(program: &str, input: &[u8]) -> std::io::Result<Vec<u8>> {
     Ok(output.stdout)
 }
 
-/// Compares a program with the second implementation of it.
-pub fn compare(program: &str, cases: Cases) -> Result<(), String> {
+/// Every kind of answer that the program can give.
+pub const KINDS: [&str; 14] = [
+    "refused run 2", "refused run 3", "refused run 4", "refused 1", "refused 2", "refused 3",
+    "refused 4", "refused 5", "refused 6", "refused 7", "refused 8", "refused 9", "pieces none",
+    "pieces some",
+];
+
+/// The kind of an answer.
+fn kind(text: &str) -> String {
+    let words: Vec<&str> = text.lines().next().unwrap_or_default().split(' ').collect();
+    match words.as_slice() {
+        ["refused", "run", number] => format!("refused run {number}"),
+        ["refused", number, ..] => format!("refused {number}"),
+        ["pieces", "0"] => "pieces none".to_string(),
+        _ => "pieces some".to_string(),
+    }
+}
+
+/// Compares a program with the second implementation of it, and counts the kinds of answer.
+pub fn compare(program: &str, cases: Cases) -> Result<BTreeMap<String, u64>, String> {
+    let mut tally = BTreeMap::new();
     for index in cases.from..cases.from + cases.cases {
         let input = input(cases.seed, index);
         let right = second::shade::shade(&input);
@@ -37,6 +57,7 @@ pub fn compare(program: &str, cases: Cases) -> Result<(), String> {
                  second writes\n{right}{program} writes\n{got}"
             ));
         }
+        *tally.entry(kind(&right)).or_insert(0) += 1;
     }
-    Ok(())
+    Ok(tally)
 }
