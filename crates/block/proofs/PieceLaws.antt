@@ -66,11 +66,11 @@ module _ (k : Piece) (p : Passes (pieceChecks k)) where
   good-sized = known .sized
 
   pub good-half : (j : ℕ) → Half (getD (pieceNumbers k) j (pos 0))
-  good-half zero = reach-half (k .bottom) (known .bottom)
-  good-half (suc zero) = reach-half (k .top) (known .top)
-  good-half (suc (suc zero)) = speed-half (k .speed .x) (known .vx)
-  good-half (suc (suc (suc zero))) = speed-half (k .speed .y) (known .vy)
-  good-half (suc (suc (suc (suc zero)))) = speed-half (k .speed .z) (known .vz)
+  good-half zero = reach-half (k .bottom) (known .band 0 (omega arith))
+  good-half (suc zero) = reach-half (k .top) (known .band 1 (omega arith) .0)
+  good-half (suc (suc zero)) = speed-half (k .speed .x) (known .band 2 (omega arith))
+  good-half (suc (suc (suc zero))) = speed-half (k .speed .y) (known .band 3 (omega arith))
+  good-half (suc (suc (suc (suc zero)))) = speed-half (k .speed .z) (known .band 4 (omega arith))
   good-half (suc (suc (suc (suc (suc j))))) =
       ⊎-elim (λ (h : length (k .corners) ≤ j). rw (List·getD-eq-default (k .corners) (pos 0) h) zero-half)
       (λ (h : j < length (k .corners)). reach-half (getD (k .corners) j (pos 0)) (known .corners j h)) (ℕ-or (length (k .corners)) j)

@@ -32,16 +32,16 @@ module _ (r : Run) (p : Passes (runChecks r)) where
   known = run-known r p
 
   pub good-half : (j : ℕ) → j < 6 → Half (getD (runNumbers r) j (pos 0))
-  good-half zero h = reach-half (r .start .x) (known .x)
-  good-half (suc zero) h = reach-half (r .start .y) (known .y)
-  good-half (suc (suc zero)) h = reach-half (r .start .z) (known .z)
-  good-half (suc (suc (suc zero))) h = speed-half (r .speed .x) (known .vx)
-  good-half (suc (suc (suc (suc zero)))) h = speed-half (r .speed .y) (known .vy)
-  good-half (suc (suc (suc (suc (suc zero))))) h = speed-half (r .speed .z) (known .vz)
+  good-half zero h = reach-half (r .start .x) (known 0 (omega arith))
+  good-half (suc zero) h = reach-half (r .start .y) (known 1 (omega arith))
+  good-half (suc (suc zero)) h = reach-half (r .start .z) (known 2 (omega arith))
+  good-half (suc (suc (suc zero))) h = speed-half (r .speed .x) (known 3 (omega arith))
+  good-half (suc (suc (suc (suc zero)))) h = speed-half (r .speed .y) (known 4 (omega arith))
+  good-half (suc (suc (suc (suc (suc zero))))) h = speed-half (r .speed .z) (known 5 (omega arith))
   good-half (suc (suc (suc (suc (suc (suc j)))))) h = absurd (omega arith)
 
   pub good-ticks : r .ticks ≤ 4096
-  good-ticks = known .ticks
+  good-ticks = known 6 (omega arith)
 
   pub good-word : (j : ℕ) → Word (getD (runNumbers r) j (pos 0))
   good-word zero = half-word (r .start .x) (good-half 0 (omega arith))

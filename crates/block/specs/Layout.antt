@@ -1,14 +1,25 @@
 -- "Blocks of a room": the bytes of each kind of block, made from its numbers. Assumes nothing.
+use mathlib.Core.Path.{_≡_}
 use mathlib.Core.List.{List, [], _∷_, _++_}
-use Prim.Native.Nat.{ℕ, zero, suc, _+_, _*_, _-_, _/_, _%_}
+use Prim.Native.Nat.{ℕ, zero, suc, _+_, _*_, _-_, _/_, _%_, _≤_}
 use lib.IntN.{ℤ, pos, negsuc}
-use lib.ListN.{length, getD, replicate}
+use lib.ListN.{length, getD, take, drop, replicate}
 use Rattle.rules.specs.Reach.{Run, Piece}
 use Rattle.rules.specs.Ring.{ring}
 
 -- byte i, and zero past the end
 abbrev pub byte : List ℕ → ℕ → ℕ
 byte l i = getD l i 0
+
+-- so many bytes are whole blocks: a multiple of 512, from the least to the most
+pub record Blocks (least most : ℕ) (l : List ℕ) : Type 0 where
+  pub whole : length l % 512 ≡ 0
+  pub above : least ≤ length l
+  pub below : length l ≤ most
+
+-- block i of them
+unfoldable pub blockAt : List ℕ → ℕ → List ℕ
+blockAt l i = take 512 (drop (512 * i) l)
 
 -- f 0 + f 1 + .. + f (n - 1)
 unfoldable pub sum : (ℕ → ℕ) → ℕ → ℕ

@@ -11,15 +11,14 @@ use Rattle.whole.proofs.Order.{ℕ-or}
 use Rattle.rules.specs.Reach.{Run, Piece}
 use Rattle.rules.specs.Refusal.{Passes}
 use Rattle.rules.specs.Good.{runChecks, pieceChecks}
-use Rattle.rules.specs.Verdict.{Verdict, verdictChecks}
+use Rattle.rules.specs.Verdict.{Verdict, verdictChecks, answer}
 use Rattle.rules.proofs.Checks.{passes-left, passes-right}
 use Rattle.rules.proofs.Reach.{RunKnown, run-known, PieceKnown, piece-known}
-use Rattle.decide.specs.Touch.{answer}
-use Rattle.block.specs.Layout.{sum, byte, plainSum, weighedSum, blockOf, filled}
+use Rattle.block.specs.Layout.{sum, byte, plainSum, weighedSum, blockOf, filled, blockAt}
 use Rattle.block.proofs.Bytes.{filled-length}
 use Rattle.book.specs.declared.Asked.{Asked}
 use Rattle.book.specs.declared.Asked.the-variants.{Remembered, Worked, Refused}
-use Rattle.book.specs.Entry.{Slots, slots, slotAt, question, home, four, entry, Hit}
+use Rattle.book.specs.Entry.{Slots, slots, question, home, four, entry, Hit}
 use Rattle.book.specs.Ask.{askChecks, Misses, AskSays, Kept, empty, asked}
 use Rattle.book.proofs.Question.{question-length, question-run, question-piece, entry-question, entry-code}
 use Rattle.book.proofs.Slots.{slot-byte, put-length, put-same, put-elsewhere}
@@ -39,7 +38,7 @@ piece-of book r k p = piece-known k (passes-right (runChecks r) (pieceChecks k) 
 
 pub checks-elsewhere : (book after : List ℕ) (r : Run) (k : Piece) → length after ≡ length book → Passes (askChecks after r k) → Passes (askChecks book r k)
 unfolding askChecks
-checks-elsewhere book after r k e p = (record { whole = ap (λ n. n % 512) (sym e) ∙ p .0 .whole; least = subst (λ (n : ℕ). 512 ≤ n) e (p .0 .least); most = subst (λ (n : ℕ). n ≤ 65536) e (p .0 .most) }, p .1)
+checks-elsewhere book after r k e p = (record { whole = ap (λ n. n % 512) (sym e) ∙ p .0 .whole; above = subst (λ (n : ℕ). 512 ≤ n) e (p .0 .above); below = subst (λ (n : ℕ). n ≤ 65536) e (p .0 .below) }, p .1)
 
 -- ---- entries and home slots
 pub entry-length : (r : Run) (k : Piece) (c : ℕ) → PieceKnown k → length (entry r k c) ≡ 512
@@ -53,7 +52,7 @@ entry-kind r k c = refl
 
 pub home-below : (book : List ℕ) (r : Run) (k : Piece) → Slots book → 512 * suc (home book r k) ≤ length book
 unfolding home
-home-below book r k s = let w = s .whole in let l = s .least in let p : 0 < slots book = omega arith in let q = mod-lt (sum (λ i. byte (question r k) i) (length (question r k))) p in omega arith
+home-below book r k s = let w = s .whole in let l = s .above in let p : 0 < slots book = omega arith in let q = mod-lt (sum (λ i. byte (question r k) i) (length (question r k))) p in omega arith
 
 home-same : (book after : List ℕ) (r : Run) (k : Piece) → length after ≡ length book → home after r k ≡ home book r k
 unfolding home
@@ -79,7 +78,7 @@ module _ (book after : List ℕ) (r s : Run) (k m : Piece) (c d : ℕ) (pr : Pas
       let hk = piece-of book r k pr in
       let rs = run-of book s m (w .passes) in
       let rk = run-of book r k pr in
-      let here : entry s m d ≡ entry r k c = sym (put-same book (entry s m d) (home book s m) (entry-length s m d hs) (home-below book s m (slots-of book s m (w .passes)))) ∙ ap (λ (b : List ℕ). slotAt b (home book s m)) (sym (w .stored)) ∙ ap (slotAt after) (sym e ∙ sym (home-same book after r k stored-length)) ∙ h .same in
+      let here : entry s m d ≡ entry r k c = sym (put-same book (entry s m d) (home book s m) (entry-length s m d hs) (home-below book s m (slots-of book s m (w .passes)))) ∙ ap (λ (b : List ℕ). blockAt b (home book s m)) (sym (w .stored)) ∙ ap (blockAt after) (sym e ∙ sym (home-same book after r k stored-length)) ∙ h .same in
       let q = entry-question s r m k d c hs hk here in
       let x = question-run s r m k rs rk hs hk q in
       let y = question-piece s r m k rs rk hs hk q in
@@ -90,7 +89,7 @@ module _ (book after : List ℕ) (r s : Run) (k m : Piece) (c d : ℕ) (pr : Pas
   other-slot n h = record {
     fits = h .fits;
     possible = h .possible;
-    same = sym (put-elsewhere book (entry s m d) (home book s m) (entry-length s m d (piece-of book s m (w .passes))) (home-below book s m (slots-of book s m (w .passes))) (home book r k) n (home-below book r k (slots-of book r k pr))) ∙ ap (λ (b : List ℕ). slotAt b (home book r k)) (sym (w .stored)) ∙ ap (slotAt after) (sym (home-same book after r k stored-length)) ∙ h .same;
+    same = sym (put-elsewhere book (entry s m d) (home book s m) (entry-length s m d (piece-of book s m (w .passes))) (home-below book s m (slots-of book s m (w .passes))) (home book r k) n (home-below book r k (slots-of book r k pr))) ∙ ap (λ (b : List ℕ). blockAt b (home book r k)) (sym (w .stored)) ∙ ap (blockAt after) (sym (home-same book after r k stored-length)) ∙ h .same;
   }
 
 by-slot : {P Q : Type 0} → Dec P → (P → Q) → ((P → ⊥) → Q) → Q

@@ -55,7 +55,7 @@ words-one (y ∷ ys) (z ∷ zs) h k e =
 
 -- ---- runs
 run-halves : (r : Run) → RunKnown r → Halves (runNumbers r)
-run-halves r k = (reach-half (k .x), (reach-half (k .y), (reach-half (k .z), (speed-half (k .vx), (speed-half (k .vy), (speed-half (k .vz), (record { above = record { le = tt }; below = low (r .ticks) (k .ticks) }, tt)))))))
+run-halves r k = (reach-half (k 0 (omega arith)), (reach-half (k 1 (omega arith)), (reach-half (k 2 (omega arith)), (speed-half (k 3 (omega arith)), (speed-half (k 4 (omega arith)), (speed-half (k 5 (omega arith)), (record { above = record { le = tt }; below = low (r .ticks) (k 6 (omega arith)) }, tt)))))))
   where
     low : (n : ℕ) → n ≤ 4096 → pos n ≤ℤ pos 32767
     low n h = record { le = le→leb n 32767 (omega arith) }
@@ -77,7 +77,7 @@ corner-halves [] h = tt
 corner-halves (z ∷ l) h = (reach-half (h 0 (omega arith)), corner-halves l (λ j g. h (suc j) (omega arith)))
 
 piece-halves : (k : Piece) → PieceKnown k → Halves (pieceNumbers k)
-piece-halves k h = (reach-half (h .bottom), (reach-half (h .top), (speed-half (h .vx), (speed-half (h .vy), (speed-half (h .vz), corner-halves (k .corners) (h .corners))))))
+piece-halves k h = (reach-half (h .band 0 (omega arith)), (reach-half (h .band 1 (omega arith) .0), (speed-half (h .band 2 (omega arith)), (speed-half (h .band 3 (omega arith)), (speed-half (h .band 4 (omega arith)), corner-halves (k .corners) (h .corners))))))
 
 piece-of : List ℤ → Piece
 piece-of l = record { bottom = getD l 0 (pos 0); top = getD l 1 (pos 0); speed = record { x = getD l 2 (pos 0); y = getD l 3 (pos 0); z = getD l 4 (pos 0) }; corners = drop 5 l }

@@ -7,14 +7,15 @@ use native.Mathlib.Omega.{arith}
 use lib.ListN.{length, getD, take, drop, length-append, length-take, length-drop, List·getD-append}
 use lib.Seq.{ext-getD, getD-take, getD-drop, getD-append-add, drop-drop}
 use Rattle.whole.proofs.Order.{ℕ-or}
-use Rattle.book.specs.Entry.{slotAt, put}
+use Rattle.block.specs.Layout.{blockAt}
+use Rattle.book.specs.Entry.{put}
 
-pub slot-length : (b : List ℕ) (i : ℕ) → 512 * suc i ≤ length b → length (slotAt b i) ≡ 512
-unfolding slotAt
+pub slot-length : (b : List ℕ) (i : ℕ) → 512 * suc i ≤ length b → length (blockAt b i) ≡ 512
+unfolding blockAt
 slot-length b i h = omega (arith, length-take 512 (drop (512 * i) b), length-drop (512 * i) b)
 
-pub slot-byte : (b : List ℕ) (i j : ℕ) → j < 512 → getD (slotAt b i) j 0 ≡ getD b (512 * i + j) 0
-unfolding slotAt
+pub slot-byte : (b : List ℕ) (i j : ℕ) → j < 512 → getD (blockAt b i) j 0 ≡ getD b (512 * i + j) 0
+unfolding blockAt
 slot-byte b i j h = getD-take 512 (drop (512 * i) b) j 0 h ∙ getD-drop (512 * i) b j 0
 
 -- slot i as a part from 512·i to 512·i + 512, and a list in its place
@@ -22,8 +23,8 @@ module _ (b : List ℕ) (i : ℕ) where
   part-size : 512 * i + 512 - 512 * i ≡ 512
   part-size = omega arith
 
-  pub part-slot : take (512 * i + 512 - 512 * i) (drop (512 * i) b) ≡ slotAt b i
-  unfolding slotAt
+  pub part-slot : take (512 * i + 512 - 512 * i) (drop (512 * i) b) ≡ blockAt b i
+  unfolding blockAt
   part-slot = ap (λ n. take n (drop (512 * i) b)) part-size
 
   pub part-put : (s t : List ℕ) → s ≡ t → take (512 * i) b ++ (s ++ drop (512 * i + 512 - 512 * i) (drop (512 * i) b)) ≡ put b i t
@@ -62,10 +63,10 @@ module _ (b s : List ℕ) (i : ℕ) (l : length s ≡ 512) (h : 512 * suc i ≤ 
       ∙ getD-drop (512 * suc i) b (n - 512 * suc i) 0
       ∙ ap (λ m. getD b m 0) f
 
-  pub put-same : slotAt (put b i s) i ≡ s
+  pub put-same : blockAt (put b i s) i ≡ s
   put-same = ext-getD 0 _ _ (slot-length (put b i s) i (omega (arith, put-length)) ∙ sym l) (λ j g. slot-byte (put b i s) i j (omega (arith, slot-length (put b i s) i (omega (arith, put-length)))) ∙ put-here j (omega (arith, slot-length (put b i s) i (omega (arith, put-length)))))
 
-  pub put-elsewhere : (k : ℕ) → (k ≡ i → ⊥) → 512 * suc k ≤ length b → slotAt (put b i s) k ≡ slotAt b k
+  pub put-elsewhere : (k : ℕ) → (k ≡ i → ⊥) → 512 * suc k ≤ length b → blockAt (put b i s) k ≡ blockAt b k
   put-elsewhere k n g =
       ext-getD 0 _ _ (slot-length (put b i s) k (omega (arith, put-length)) ∙ sym (slot-length b k g))
       (λ j q. let r : j < 512 = omega (arith, slot-length (put b i s) k (omega (arith, put-length))) in

@@ -4,17 +4,16 @@ use mathlib.Core.List.{List}
 use Prim.Native.Nat.{ℕ}
 use Rattle.rules.specs.Reach.{Run, Piece}
 use Rattle.rules.specs.Refusal.{Passes}
-use Rattle.rules.specs.Verdict.{Verdict}
+use Rattle.rules.specs.Verdict.{Verdict, answer}
 use Rattle.rules.proofs.Checks.{AllSharp, sharp-demand, never-both, one-fault}
 use Rattle.rules.proofs.Good.{sharp-verdict}
-use Rattle.rules.proofs.Verdict.{one-verdict}
+use Rattle.rules.proofs.Verdict.{one-verdict, answer-one}
 use Rattle.refusal.specs.Said.{said}
 use Rattle.refusal.proofs.Unique.{said-one}
-use Rattle.decide.specs.Touch.{answer}
-use Rattle.decide.proofs.Answer.{answer-one}
 use Rattle.book.specs.declared.Asked.{Asked}
 use Rattle.book.specs.declared.Asked.the-variants.{Remembered, Worked, Refused}
-use Rattle.book.specs.Entry.{slotAt, home, Hit}
+use Rattle.block.specs.Layout.{blockAt}
+use Rattle.book.specs.Entry.{home, Hit}
 use Rattle.book.specs.Ask.{askChecks, AskSays}
 use Rattle.book.proofs.Question.{entry-question, entry-code, question-run, question-piece}
 use Rattle.book.proofs.Kept.{run-of, piece-of}
@@ -26,7 +25,7 @@ sharp-ask book r k = (sharp-demand _ _, sharp-verdict r k)
 -- two questions never answer for each other, though they share slot and sum
 pub never-mixed : (book : List ℕ) (r s : Run) (k m : Piece) (c d : ℕ) → Passes (askChecks book r k) → Passes (askChecks book s m) → home book r k ≡ home book s m → Hit book r k c → Hit book s m d → (r ≡ s) × (k ≡ m)
 never-mixed book r s k m c d p q e h g =
-    let x = entry-question r s k m c d (piece-of book r k p) (piece-of book s m q) (sym (h .same) ∙ ap (λ i. slotAt book i) e ∙ g .same) in
+    let x = entry-question r s k m c d (piece-of book r k p) (piece-of book s m q) (sym (h .same) ∙ ap (λ i. blockAt book i) e ∙ g .same) in
     (question-run r s k m (run-of book r k p) (run-of book s m q) (piece-of book r k p) (piece-of book s m q) x, question-piece r s k m (run-of book r k p) (run-of book s m q) (piece-of book r k p) (piece-of book s m q) x)
 
 hit-one : (book : List ℕ) (r : Run) (k : Piece) (c d : ℕ) → Passes (askChecks book r k) → Hit book r k c → Hit book r k d → c ≡ d

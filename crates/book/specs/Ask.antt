@@ -5,9 +5,8 @@ use Prim.Native.Nat.{ℕ, _*_, _<_}
 use lib.ListN.{length, replicate}
 use Rattle.rules.specs.Reach.{Run, Piece}
 use Rattle.rules.specs.Refusal.{refuse, Check, Passes, Fault, demand}
-use Rattle.rules.specs.Verdict.{Verdict, verdictChecks}
+use Rattle.rules.specs.Verdict.{Verdict, verdictChecks, answer}
 use Rattle.refusal.specs.Said.{said}
-use Rattle.decide.specs.Touch.{answer}
 use Rattle.book.specs.declared.Asked.{Asked}
 use Rattle.book.specs.declared.Asked.the-variants.{Remembered, Worked, Refused}
 use Rattle.book.specs.Entry.{Slots, home, entry, Hit, put}

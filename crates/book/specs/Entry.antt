@@ -5,21 +5,15 @@ use mathlib.Core.List.{List, [], _∷_, _++_}
 use Prim.Native.Nat.{ℕ, suc, _*_, _/_, _%_, _≤_, _<_}
 use lib.ListN.{length, take, drop}
 use Rattle.rules.specs.Reach.{Run, Piece}
-use Rattle.decide.specs.Touch.{NONE}
-use Rattle.block.specs.Layout.{byte, sum, blockOf, runBody, pieceBody}
+use Rattle.rules.specs.Verdict.{NONE}
+use Rattle.block.specs.Layout.{byte, Blocks, blockAt, sum, blockOf, runBody, pieceBody}
 
 -- 1 to 128 slots of 512 bytes
-pub record Slots (book : List ℕ) : Type 0 where
-  pub whole : length book % 512 ≡ 0
-  pub least : 512 ≤ length book
-  pub most : length book ≤ 65536
+abbrev pub Slots : List ℕ → Type 0
+Slots book = Blocks 512 65536 book
 
 abbrev pub slots : List ℕ → ℕ
 slots book = length book / 512
-
--- slot i
-unfoldable pub slotAt : List ℕ → ℕ → List ℕ
-slotAt book i = take 512 (drop (512 * i) book)
 
 -- the question: bytes 2 to 282 of its entry
 unfoldable pub question : Run → Piece → List ℕ
@@ -45,7 +39,7 @@ Possible r c = (c ≡ NONE) ⊎ (c ≤ 256 * r .ticks)
 pub record Hit (book : List ℕ) (r : Run) (k : Piece) (c : ℕ) : Type 0 where
   pub fits : c < 4294967296
   pub possible : Possible r c
-  pub same : slotAt book (home book r k) ≡ entry r k c
+  pub same : blockAt book (home book r k) ≡ entry r k c
 
 -- the book with slot i put in its place
 unfoldable pub put : List ℕ → ℕ → List ℕ → List ℕ

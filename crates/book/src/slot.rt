@@ -8,9 +8,9 @@ ghost use Prim.Native.Nat.{suc, _+_, _*_, _≤_};
 ghost use lib.ListN.{length, take};
 ghost use Rattle.rules.specs.Reach.{Ticks};
 ghost use Rattle.piece.specs.Numbers.{runOf};
-ghost use Rattle.block.specs.Layout.{blockOf};
+ghost use Rattle.block.specs.Layout.{blockOf, blockAt};
 ghost use Rattle.block.specs.Scan.{FirstByte};
-ghost use Rattle.book.specs.Entry.{slotAt, put};
+ghost use Rattle.book.specs.Entry.{put};
 ghost use Rattle.book.specs.Steps.{FirstOther, Coded, Recalls};
 
 // Clear, as a verdict is coded.
@@ -90,7 +90,7 @@ fn recall(slot: &[u8], front: &[u8], run: Run) -> Found
 
 pub(crate) fn look(book: &[u8], at: usize, front: &[u8], run: Run) -> Found
     requires { ⌜ (512 * suc at ≤ length (now book)) × ((length (now front) ≡ 287) × Ticks (run .ticks)) ⌝ }
-    ensures { λ r. ⌜ Recalls (slotAt (now (book .entry)) at) (take 283 (now (front .entry))) (runOf run) r ⌝ }
+    ensures { λ r. ⌜ Recalls (blockAt (now (book .entry)) at) (take 283 (now (front .entry))) (runOf run) r ⌝ }
 {
     let from = 512 * at;
     let to = from + 512;

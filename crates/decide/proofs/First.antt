@@ -12,7 +12,8 @@ use Rattle.whole.proofs.Fraction.{trans, total, floor-mono}
 use Rattle.whole.proofs.Order.{lt-le, ℕ-or}
 use Rattle.rules.specs.Ring.{Pt, Ring, from, to}
 use Rattle.decide.specs.Span.{Span, some, first}
-use Rattle.decide.specs.Touch.{NONE, across, sameSide, onEdge, touch, touches}
+use Rattle.rules.specs.Verdict.{NONE}
+use Rattle.decide.specs.Touch.{across, sameSide, onEdge, touch, touches}
 use Rattle.decide.proofs.Span.{Proper, In, begin, Clips, begins, no-moment, first-mark}
 use Rattle.decide.proofs.Touch.{OnAt, edge-clips, beside}
 

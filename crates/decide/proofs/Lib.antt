@@ -4,4 +4,3 @@ pub mod Touch
 pub mod First
 pub mod Motion
 pub mod Verdict
-pub mod Answer

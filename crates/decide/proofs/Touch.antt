@@ -18,7 +18,8 @@ use Rattle.rules.specs.Ring.{Pt, times, Ring, from, to, On}
 use Rattle.rules.specs.Contact.{along}
 use Rattle.rules.proofs.Segment.{o, side, mix, mix⁺}
 use Rattle.decide.specs.Span.{Span, clip, some, first}
-use Rattle.decide.specs.Touch.{NONE, least, most, swing, across, sameSide, onLine, within, onEdge, touch, touches}
+use Rattle.rules.specs.Verdict.{NONE}
+use Rattle.decide.specs.Touch.{least, most, swing, across, sameSide, onLine, within, onEdge, touch, touches}
 use Rattle.decide.proofs.Span.{Proper, In, begin, Holds, Clips, clips, turned, both, begins, no-moment, first-mark}
 use Rattle.decide.proofs.Place.{Boxed, on-boxed, boxed-on}
 

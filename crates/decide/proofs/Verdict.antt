@@ -16,12 +16,12 @@ use Rattle.rules.specs.Reach.{Run, Piece, Ticks}
 use Rattle.rules.specs.Ring.{Pt, Ring, ring}
 use Rattle.rules.specs.Place.{Where, on, inside, outside, Place}
 use Rattle.rules.specs.Contact.{Moment, InBand, Contact}
-use Rattle.rules.specs.Verdict.{Answer, clear, blocked, Mark, Verdict}
+use Rattle.rules.specs.Verdict.{Answer, clear, blocked, Mark, Verdict, NONE, answer}
 use Rattle.rules.proofs.Crossing.{flag, parity}
 use Rattle.rules.proofs.Place.{bit, place-parity}
 use Rattle.rules.proofs.Contact.{place-relative, relative-place}
 use Rattle.decide.specs.Span.{Span, ticks, clip, some, first}
-use Rattle.decide.specs.Touch.{NONE, touches, place, pointOf, motion, bandSpan, startPoint, over, fromPlace, meets, code, answer}
+use Rattle.decide.specs.Touch.{touches, place, pointOf, motion, bandSpan, startPoint, over, fromPlace, meets, code}
 use Rattle.decide.proofs.Span.{Proper, In, begin, Holds, Clips, clips, turned, both, begins, no-moment, first-mark, between}
 use Rattle.decide.proofs.Touch.{at, diff-le, le-diff}
 use Rattle.decide.proofs.Place.{place-right}

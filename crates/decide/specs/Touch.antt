@@ -2,20 +2,15 @@
 use mathlib.Core.Bool.{Bool, true, false, cond, _&&_, _||_}
 use mathlib.Core.List.{List}
 use Prim.Native.Nat.{ℕ, zero, suc, min}
-use lib.Dec.{eqb}
 use lib.IntN.{ℤ, pos, negℤ, _+ℤ_, _-ℤ_, _*ℤ_}
 use lib.Signed.{leZ, ltZ}
 use Rattle.rules.specs.Reach.{Run, Piece}
 use Rattle.rules.specs.Ring.{Pt, times, Ring, ring, from, to}
 use Rattle.rules.specs.Place.{Where, on, inside, outside}
-use Rattle.rules.specs.Verdict.{Answer, clear, blocked}
+use Rattle.rules.specs.Verdict.{NONE}
 use Rattle.rules.proofs.Segment.{o}
 use Rattle.rules.proofs.Crossing.{flag, parity}
 use Rattle.decide.specs.Span.{Span, ticks, clip, some, first}
-
--- clear, as a verdict is coded
-abbrev pub NONE : ℕ
-NONE = 4294967295
 
 abbrev pub least : ℤ → ℤ → ℤ
 least a b = cond (leZ a b) a b
@@ -96,7 +91,3 @@ meets r p w s = cond (some s) (fromPlace (place (over (s .lowD) r) (startPoint p
 
 unfoldable pub code : Run → Piece → ℕ
 code r k = meets (ring (k .corners)) (pointOf r) (motion r k) (bandSpan r k)
-
--- a code read as an answer
-abbrev pub answer : ℕ → Answer
-answer c = cond (eqb c NONE) clear (blocked c)

@@ -4,9 +4,8 @@ use Prim.Native.Nat.{ℕ}
 use native.Mathlib.Decide.{ℕ-discrete}
 use Rattle.rules.specs.Reach.{Run, Piece}
 use Rattle.rules.specs.Good.{RunKnown, PieceKnown}
-use Rattle.rules.proofs.Verdict.{one-verdict}
-use Rattle.decide.specs.Touch.{answer}
-use Rattle.decide.proofs.Answer.{answer-one}
+use Rattle.rules.proofs.Verdict.{one-verdict, answer-one}
+use Rattle.rules.specs.Verdict.{answer}
 use Rattle.piece.specs.Code.{CodeSays}
 
 pub one-code : (r : Run) (k : Piece) (c d : ℕ) → CodeSays r k c → CodeSays r k d → c ≡ d

@@ -18,7 +18,8 @@ use Rattle.rules.specs.Place.{Where, on, inside, outside}
 use Rattle.rules.proofs.Reach.{RunKnown, PieceKnown}
 use Rattle.rules.proofs.Segment.{o}
 use Rattle.decide.specs.Span.{Span, ticks, some, first}
-use Rattle.decide.specs.Touch.{NONE, least, most, swing, across, sameSide, onLine, within, onEdge, touch, touches, bandSpan, startPoint, over, pointOf, motion, place, fromPlace, meets}
+use Rattle.rules.specs.Verdict.{NONE}
+use Rattle.decide.specs.Touch.{least, most, swing, across, sameSide, onLine, within, onEdge, touch, touches, bandSpan, startPoint, over, pointOf, motion, place, fromPlace, meets}
 use Rattle.piece.specs.Moving.{Tame, Small, Bounds, Slope}
 use Rattle.piece.specs.Touch.{Close, Slow, Ready, Flat, Standing, Level, GapSteps, contact, AlongSteps, AcrossSteps, SwingSteps}
 use Rattle.piece.specs.Steps.{SideSteps}
@@ -267,22 +268,22 @@ half n h = omega (arith, h)
 module _ (r : Run) (k : Piece) (h : RunKnown r) (g : PieceKnown k) where
   pub level : Level r k
   level = record {
-    start = reach-abs (r .start .z) (h .z);
-    bottom = reach-abs (k .bottom) (g .bottom);
-    top = reach-abs (k .top) (g .top);
-    rise = speed-abs (r .speed .z) (h .vz);
-    lift = speed-abs (k .speed .z) (g .vz);
-    ticks = h .ticks;
+    start = reach-abs (r .start .z) (h 2 (omega arith));
+    bottom = reach-abs (k .bottom) (g .band 0 (omega arith));
+    top = reach-abs (k .top) (g .band 1 (omega arith) .0);
+    rise = speed-abs (r .speed .z) (h 5 (omega arith));
+    lift = speed-abs (k .speed .z) (g .band 4 (omega arith));
+    ticks = h 6 (omega arith);
   }
 
   pub standing : Standing (k .corners) (pointOf r) (motion r k) (bandSpan r k)
   standing = record {
     held = record { corners = g .sized .corners; whole = half (length (k .corners)) (g .sized .even) };
     corners = λ j l. let e = half (length (k .corners)) (g .sized .even) in record { below = l; x = g .corners (2 * j) (omega (arith, l, e)); y = g .corners (2 * j + 1) (omega (arith, l, e)) };
-    start = record { x = reach-abs (r .start .x) (h .x); y = reach-abs (r .start .y) (h .y) };
+    start = record { x = reach-abs (r .start .x) (h 0 (omega arith)); y = reach-abs (r .start .y) (h 1 (omega arith)) };
     speed = record {
-      x = omega (arith, abs-sub (r .speed .x) (k .speed .x), speed-abs (r .speed .x) (h .vx), speed-abs (k .speed .x) (g .vx));
-      y = omega (arith, abs-sub (r .speed .y) (k .speed .y), speed-abs (r .speed .y) (h .vy), speed-abs (k .speed .y) (g .vy));
+      x = omega (arith, abs-sub (r .speed .x) (k .speed .x), speed-abs (r .speed .x) (h 3 (omega arith)), speed-abs (k .speed .x) (g .band 2 (omega arith)));
+      y = omega (arith, abs-sub (r .speed .y) (k .speed .y), speed-abs (r .speed .y) (h 4 (omega arith)), speed-abs (k .speed .y) (g .band 3 (omega arith)));
     };
     span = wider 32768 510 (bandSpan r k) (tame-band r k level) _ _ (omega arith) (omega arith);
   }

@@ -3,8 +3,7 @@ use mathlib.Core.Path.{_≡_}
 use Prim.Native.Nat.{ℕ}
 use Rattle.rules.specs.Reach.{Run, Piece}
 use Rattle.rules.specs.Good.{RunKnown, PieceKnown}
-use Rattle.rules.specs.Verdict.{Verdict}
-use Rattle.decide.specs.Touch.{answer}
+use Rattle.rules.specs.Verdict.{Verdict, answer}
 
 -- where all numbers are within reach, the code of the verdict; otherwise 0
 pub record CodeSays (r : Run) (k : Piece) (c : ℕ) : Type 0 where

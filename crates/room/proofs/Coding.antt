@@ -22,7 +22,8 @@ use Rattle.piece.specs.Code.{CodeSays}
 use Rattle.block.specs.declared.PieceRead.{PieceRead}
 use Rattle.block.specs.Reading.{pieceBlockChecks, PieceGood}
 use Rattle.block.proofs.PieceLaws.{sized-length, sized-most, good-sized, piece-passes}
-use Rattle.room.specs.Image.{blockAt, count, saidIn, headChecks, piecesCheck, roomChecks}
+use Rattle.block.specs.Layout.{blockAt}
+use Rattle.room.specs.Image.{count, saidIn, headChecks, piecesCheck, roomChecks}
 use Rattle.room.specs.declared.Counted.the-variants.{Refused}
 use Rattle.room.specs.Verdicts.{verdictsChecks, CodeOf, Filled, VerdictsSay}
 use Rattle.room.specs.Codes.{CodesTo, AllCoded, Stored}

@@ -12,12 +12,12 @@ use Rattle.rules.proofs.Checks.{passes-append, passes-left, passes-right, fault
 use Rattle.refusal.specs.declared.Refusal.{Refusal}
 use Rattle.refusal.specs.declared.Refusal.the-variants.{Length, Check as Seal, Kind, Reach, Corners, Same, Fold, Meet, Clockwise, Short, NotNumber, Beyond, OffGrid}
 use Rattle.refusal.specs.Said.{said}
-use Rattle.block.specs.Layout.{byte}
+use Rattle.block.specs.Layout.{byte, blockAt}
 use Rattle.block.specs.Reading.{headerChecks, HeaderSays}
 use Rattle.block.specs.declared.HeaderRead.the-variants.{Count as Pieced, NoHeader}
 use Rattle.block.proofs.Headers.{header-passes, header-one, header-is, header-count}
 use Rattle.room.specs.declared.Counted.the-variants.{Count, Refused}
-use Rattle.room.specs.Image.{blockAt, count, Whole, saidIn, headChecks, HeadSays, Has}
+use Rattle.room.specs.Image.{count, Whole, saidIn, headChecks, HeadSays, Has}
 
 -- outside a room the block is 0
 pub said-zero : (x : Refusal) → saidIn x 0 ≡ said x

@@ -11,7 +11,8 @@ use Rattle.block.specs.declared.PieceRead.{PieceRead}
 use Rattle.block.specs.Reading.{pieceBlockChecks, PieceGood, PieceFound, PieceSays}
 use Rattle.room.specs.declared.Found.the-variants.{End, Refused}
 use Rattle.room.specs.declared.Step.{Step}
-use Rattle.room.specs.Image.{blockAt, count, saidIn, headChecks, Has}
+use Rattle.block.specs.Layout.{blockAt}
+use Rattle.room.specs.Image.{count, saidIn, headChecks, Has}
 use Rattle.room.specs.Step.{Gives, StepFault, head, block, StepFinds, StepSays}
 use Rattle.room.specs.Made.{NoPiece, stepOf}
 

@@ -12,12 +12,10 @@ use Rattle.rules.specs.Reach.{Run, Piece}
 use Rattle.rules.specs.Refusal as rules
 use Rattle.rules.specs.Refusal.{Passes, Fault}
 use Rattle.rules.specs.Good.{runChecks}
-use Rattle.rules.specs.Verdict.{Verdict}
+use Rattle.rules.specs.Verdict.{Verdict, answer}
 use Rattle.rules.proofs.Checks.{only, Sharp, AllSharp, never-both, one-fault, sharp-demand, sharp-append}
 use Rattle.rules.proofs.Good.{sharp-run}
-use Rattle.rules.proofs.Verdict.{one-verdict}
-use Rattle.decide.specs.Touch.{answer}
-use Rattle.decide.proofs.Answer.{answer-one}
+use Rattle.rules.proofs.Verdict.{one-verdict, answer-one}
 use Rattle.refusal.specs.declared.Refusal.{Refusal}
 use Rattle.refusal.proofs.Unique.{said-one}
 use Rattle.block.specs.Reading.{headerChecks, pieceBlockChecks, PieceIn, Holds, PieceGood}
@@ -30,7 +28,8 @@ use Rattle.room.specs.declared.Found.{Found}
 use Rattle.room.specs.declared.Found.the-variants.{Piece as Good, End, Refused}
 use Rattle.room.specs.declared.Reader.{Reader}
 use Rattle.room.specs.declared.Step.{Step}
-use Rattle.room.specs.Image.{blockAt, count, inBlock, saidIn, headChecks, FirstRefused, piecesCheck, roomChecks}
+use Rattle.block.specs.Layout.{blockAt}
+use Rattle.room.specs.Image.{count, inBlock, saidIn, headChecks, FirstRefused, piecesCheck, roomChecks}
 use Rattle.room.specs.Step.{pieceRead, StepFault, head, block, StepFinds, StepSays}
 use Rattle.room.specs.Verdicts.{verdictsChecks, CodeOf, Filled, VerdictsSay}
 use Rattle.room.proofs.Images.{said-zero}

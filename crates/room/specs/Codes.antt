@@ -12,7 +12,8 @@ use Rattle.room.specs.declared.Counted.the-variants.{Count, Refused}
 use Rattle.room.specs.declared.pass.Coded.{Coded}
 use Rattle.room.specs.declared.pass.Coded.the-variants.{Code, NoPiece}
 use Rattle.room.specs.declared.pass.Codes.{Codes}
-use Rattle.room.specs.Image.{blockAt, count, saidIn, roomChecks}
+use Rattle.block.specs.Layout.{blockAt}
+use Rattle.room.specs.Image.{count, saidIn, roomChecks}
 use Rattle.room.specs.Verdicts.{CodeOf}
 
 -- piece i

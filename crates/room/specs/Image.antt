@@ -2,29 +2,23 @@
 use mathlib.Core.Path.{_≡_}
 use mathlib.Core.List.{List, [], _∷_, _++_}
 use Prim.Native.Nat.{ℕ, suc, _+_, _*_, _%_, _≤_, _<_}
-use lib.ListN.{length, take, drop}
+use lib.ListN.{length}
 use Rattle.rules.specs.Refusal as rules
 use Rattle.rules.specs.Refusal.{refuse, Check, Passes, Fault, demand}
 use Rattle.refusal.specs.declared.Refusal.{Refusal}
 use Rattle.refusal.specs.Said.{said}
-use Rattle.block.specs.Layout.{byte}
+use Rattle.block.specs.Layout.{byte, Blocks, blockAt}
 use Rattle.block.specs.Reading.{headerChecks, pieceBlockChecks}
 use Rattle.room.specs.declared.Counted.{Counted}
 use Rattle.room.specs.declared.Counted.the-variants.{Count, Refused}
-
--- block i of an image
-unfoldable pub blockAt : List ℕ → ℕ → List ℕ
-blockAt image i = take 512 (drop (512 * i) image)
 
 -- the piece count that the header says
 abbrev pub count : List ℕ → ℕ
 count image = byte image 5
 
 -- a multiple of 512, from 512 to 65,024
-pub record Whole (image : List ℕ) : Type 0 where
-  pub blocks : length image % 512 ≡ 0
-  pub least : 512 ≤ length image
-  pub most : length image ≤ 65024
+abbrev pub Whole : List ℕ → Type 0
+Whole image = Blocks 512 65024 image
 
 -- a refusal of piece i is one of block i + 1
 abbrev pub inBlock : ℕ → rules.Refusal → rules.Refusal

@@ -10,7 +10,8 @@ use Rattle.refusal.specs.declared.Checked.the-variants.{Good}
 use Rattle.room.specs.declared.Found.{Found}
 use Rattle.room.specs.declared.Found.the-variants.{Piece, End, Refused}
 use Rattle.room.specs.declared.Step.{Step}
-use Rattle.room.specs.Image.{blockAt, count, inBlock, saidIn, headChecks}
+use Rattle.block.specs.Layout.{blockAt}
+use Rattle.room.specs.Image.{count, inBlock, saidIn, headChecks}
 
 -- the piece of a step, as a block's reading gives it
 abbrev pub pieceRead : Step → PieceRead

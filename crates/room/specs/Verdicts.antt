@@ -6,12 +6,11 @@ use lib.ListN.{length, getD}
 use Rattle.rules.specs.Reach.{Run, Piece}
 use Rattle.rules.specs.Refusal.{refuse, Check, Passes, Fault, demand}
 use Rattle.rules.specs.Good.{runChecks, pieceChecks}
-use Rattle.rules.specs.Verdict.{Verdict}
-use Rattle.decide.specs.Touch.{answer}
-use Rattle.block.specs.Layout.{pieceBlock}
+use Rattle.rules.specs.Verdict.{Verdict, answer}
+use Rattle.block.specs.Layout.{pieceBlock, blockAt}
 use Rattle.room.specs.declared.Counted.{Counted}
 use Rattle.room.specs.declared.Counted.the-variants.{Count, Refused}
-use Rattle.room.specs.Image.{blockAt, count, saidIn, roomChecks}
+use Rattle.room.specs.Image.{count, saidIn, roomChecks}
 
 -- the run, the room, and at last the lent list
 unfoldable pub verdictsChecks : Run → List ℕ → List ℕ → List Check

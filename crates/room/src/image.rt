@@ -7,7 +7,8 @@ use block::read_piece;
 use refusal::Refusal;
 ghost use Prim.Native.Nat.{suc};
 ghost use Rattle.block.specs.Reading.{PieceSays};
-ghost use Rattle.room.specs.Image.{blockAt, HeadSays, Has};
+ghost use Rattle.block.specs.Layout.{blockAt};
+ghost use Rattle.room.specs.Image.{HeadSays, Has};
 
 // Length, header, length against count.
 pub(crate) fn head(image: &[u8]) -> Counted

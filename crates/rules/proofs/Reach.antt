@@ -22,47 +22,29 @@ between-stable l h z f = record { above = le-stable _ _ (λ g. f (λ b. g (b .ab
 ticks-stable : (n : ℕ) → ((Ticks n → ⊥) → ⊥) → Ticks n
 ticks-stable n f = ⊎-elim (λ h. h) (λ (h : 4096 < n). absurd (f (λ g. absurd (omega arith)))) (ℕ-or n 4096)
 
+run-stable : (r : Run) (j : ℕ) → ((runNumber r j → ⊥) → ⊥) → runNumber r j
+run-stable r zero f = between-stable _ _ _ f
+run-stable r (suc zero) f = between-stable _ _ _ f
+run-stable r (suc (suc zero)) f = between-stable _ _ _ f
+run-stable r (suc (suc (suc zero))) f = between-stable _ _ _ f
+run-stable r (suc (suc (suc (suc zero)))) f = between-stable _ _ _ f
+run-stable r (suc (suc (suc (suc (suc zero))))) f = between-stable _ _ _ f
+run-stable r (suc (suc (suc (suc (suc (suc j)))))) f = ticks-stable (r .ticks) f
+
+band-stable : (k : Piece) (j : ℕ) → ((bandNumber k j → ⊥) → ⊥) → bandNumber k j
+band-stable k zero f = between-stable _ _ _ f
+band-stable k (suc zero) f = (between-stable _ _ _ (λ g. f (λ h. g (h .0))), le-stable _ _ (λ g. f (λ h. g (h .1))))
+band-stable k (suc (suc zero)) f = between-stable _ _ _ f
+band-stable k (suc (suc (suc zero))) f = between-stable _ _ _ f
+band-stable k (suc (suc (suc (suc j)))) f = between-stable _ _ _ f
+
 pub run-known : (r : Run) → Passes (runChecks r) → RunKnown r
 unfolding runChecks
-run-known r p = record {
-  x = between-stable _ _ _ (p .0 0 (omega arith));
-  y = between-stable _ _ _ (p .0 1 (omega arith));
-  z = between-stable _ _ _ (p .0 2 (omega arith));
-  vx = between-stable _ _ _ (p .0 3 (omega arith));
-  vy = between-stable _ _ _ (p .0 4 (omega arith));
-  vz = between-stable _ _ _ (p .0 5 (omega arith));
-  ticks = ticks-stable (r .ticks) (p .0 6 (omega arith));
-}
+run-known r p j h = run-stable r j (p .0 j h)
 
 pub numbers-known : (k : Piece) → Sized (k .corners) → ((j : ℕ) → j < 5 → (bandNumber k j → ⊥) → ⊥) → ((j : ℕ) → j < length (k .corners) → (Reach (getD (k .corners) j (pos 0)) → ⊥) → ⊥) → PieceKnown k
-numbers-known k s b c = record {
-  sized = s;
-  bottom = between-stable _ _ _ (b 0 (omega arith));
-  top = between-stable _ _ _ (λ f. b 1 (omega arith) (λ h. f (h .0)));
-  order = le-stable _ _ (λ f. b 1 (omega arith) (λ h. f (h .1)));
-  vx = between-stable _ _ _ (b 2 (omega arith));
-  vy = between-stable _ _ _ (b 3 (omega arith));
-  vz = between-stable _ _ _ (b 4 (omega arith));
-  corners = λ j h. between-stable _ _ _ (c j h);
-}
+numbers-known k s b c = record { sized = s; band = λ j h. band-stable k j (b j h); corners = λ j h. between-stable _ _ _ (c j h) }
 
 pub piece-known : (k : Piece) → Passes (pieceChecks k) → PieceKnown k
 unfolding pieceChecks sizedCheck bandCheck shapeChecks
 piece-known k p = numbers-known k (p .0) (p .1 .0) (p .1 .1 .0)
-
--- and back, number by number
-pub run-number : (r : Run) → RunKnown r → (j : ℕ) → j < 7 → runNumber r j
-run-number r k zero h = k .x
-run-number r k (suc zero) h = k .y
-run-number r k (suc (suc zero)) h = k .z
-run-number r k (suc (suc (suc zero))) h = k .vx
-run-number r k (suc (suc (suc (suc zero)))) h = k .vy
-run-number r k (suc (suc (suc (suc (suc zero))))) h = k .vz
-run-number r k (suc (suc (suc (suc (suc (suc j)))))) h = k .ticks
-
-pub band-number : (k : Piece) → PieceKnown k → (j : ℕ) → j < 5 → bandNumber k j
-band-number k p zero h = p .bottom
-band-number k p (suc zero) h = (p .top, p .order)
-band-number k p (suc (suc zero)) h = p .vx
-band-number k p (suc (suc (suc zero))) h = p .vy
-band-number k p (suc (suc (suc (suc j)))) h = p .vz

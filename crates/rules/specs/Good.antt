@@ -71,24 +71,13 @@ bandNumber k (suc (suc (suc zero))) = Speed (k .speed .y)
 bandNumber k (suc (suc (suc (suc n)))) = Speed (k .speed .z)
 
 -- every number of a run is within its reach
-pub record RunKnown (r : Run) : Type 0 where
-  pub x : Reach (r .start .x)
-  pub y : Reach (r .start .y)
-  pub z : Reach (r .start .z)
-  pub vx : Speed (r .speed .x)
-  pub vy : Speed (r .speed .y)
-  pub vz : Speed (r .speed .z)
-  pub ticks : Ticks (r .ticks)
+abbrev pub RunKnown : Run → Type 0
+RunKnown r = (j : ℕ) → j < 7 → runNumber r j
 
 -- every number of a piece is within its reach, and its list is sized
 pub record PieceKnown (k : Piece) : Type 0 where
   pub sized : Sized (k .corners)
-  pub bottom : Reach (k .bottom)
-  pub top : Reach (k .top)
-  pub order : k .bottom ≤ℤ k .top
-  pub vx : Speed (k .speed .x)
-  pub vy : Speed (k .speed .y)
-  pub vz : Speed (k .speed .z)
+  pub band : (j : ℕ) → j < 5 → bandNumber k j
   pub corners : (j : ℕ) → j < length (k .corners) → Reach (getD (k .corners) j (pos 0))
 
 -- ---- the checks, in their order

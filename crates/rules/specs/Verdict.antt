@@ -1,6 +1,8 @@
 -- The verdict: clear, or the mark of the earliest contact. Assumes nothing.
+use mathlib.Core.Bool.{cond}
 use mathlib.Core.List.{List, _++_}
 use Prim.Native.Nat.{ℕ}
+use lib.Dec.{eqb}
 use lib.IntN.{pos}
 use Rattle.whole.specs.Fraction.{Frac, _≺_, mark, Floor}
 use Rattle.rules.specs.Reach.{Run, Piece}
@@ -11,6 +13,13 @@ use Rattle.rules.specs.Contact.{Moment, Contact}
 pub data Answer : Type 0 where
   clear : Answer
   blocked : ℕ → Answer
+
+-- an answer as a number: FFFFFFFF for clear, otherwise the mark
+abbrev pub NONE : ℕ
+NONE = 0xFFFFFFFF
+
+abbrev pub answer : ℕ → Answer
+answer c = cond (eqb c NONE) clear (blocked c)
 
 -- contact at some moment in [k/256, (k + 1)/256), and at none before k/256
 pub record Mark (r : Run) (p : Piece) (k : ℕ) : Type 0 where

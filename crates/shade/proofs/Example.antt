@@ -1,7 +1,7 @@
 -- The example's lines, computed. Assumes nothing.
 use mathlib.Core.Path.{_≡_, refl}
 use mathlib.Core.List.{[], _∷_}
-use Rattle.decide.specs.Touch.{NONE}
+use Rattle.rules.specs.Verdict.{NONE}
 use Rattle.shade.specs.Text.{digitsIn, roomLine, pieceLine, pieceLines, page}
 
 -- pieces 2, 0 blocked 1024, 1 clear

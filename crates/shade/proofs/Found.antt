@@ -11,9 +11,9 @@ use Rattle.rules.specs.Refusal.{Refusal, Check, Passes, Fault, demand, refuse}
 use Rattle.rules.specs.Good.{runChecks}
 use Rattle.rules.proofs.Checks.{AllSharp, passes-left, passes-right}
 use Rattle.rules.proofs.Good.{sharp-run}
-use Rattle.block.specs.Layout.{byte}
+use Rattle.block.specs.Layout.{byte, blockAt}
 use Rattle.block.specs.Reading.{blockChecks, headerBytes, headerChecks}
-use Rattle.room.specs.Image.{blockAt, count, inBlock, headChecks, roomChecks}
+use Rattle.room.specs.Image.{count, inBlock, headChecks, roomChecks}
 use Rattle.room.specs.Verdicts.{verdictsChecks, Filled}
 use Rattle.shade.specs.Put.{Puts}
 use Rattle.shade.specs.Text.{page, lengthChecks, roomPart, Page}

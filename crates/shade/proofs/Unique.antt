@@ -6,18 +6,17 @@ use native.Mathlib.Omega.{arith}
 use lib.ListN.{getD}
 use Rattle.rules.specs.Reach.{Run}
 use Rattle.rules.specs.Refusal.{Refusal, Passes, Fault}
-use Rattle.rules.specs.Verdict.{Verdict}
+use Rattle.rules.specs.Verdict.{Verdict, answer}
 use Rattle.rules.proofs.Checks.{AllSharp, sharp-demand, never-both, one-fault}
-use Rattle.rules.proofs.Verdict.{one-verdict}
-use Rattle.decide.specs.Touch.{answer}
-use Rattle.decide.proofs.Answer.{answer-one}
+use Rattle.rules.proofs.Verdict.{one-verdict, answer-one}
 use Rattle.block.specs.Reading.{RunIn, PieceIn, runBlockChecks}
 use Rattle.block.proofs.RunLaws.{run-one, run-passes}
 use Rattle.block.proofs.RunLaws.{good-in as run-in}
 use Rattle.block.proofs.PieceLaws.{piece-one}
 use Rattle.block.proofs.PieceLaws.{good-in as piece-in}
 use Rattle.block.proofs.Sharp.{sharp-run-block}
-use Rattle.room.specs.Image.{blockAt, count, roomChecks}
+use Rattle.block.specs.Layout.{blockAt}
+use Rattle.room.specs.Image.{count, roomChecks}
 use Rattle.room.proofs.Unique.{sharp-room}
 use Rattle.room.specs.Verdicts.{CodeOf}
 use Rattle.shade.specs.Text.{runLine, roomLine, pieceLines, page, Whole, lengthChecks, runPart, roomPart, RunGiven, Page, Answers, badLength, badRun, badRoom, verdicts}

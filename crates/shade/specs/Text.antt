@@ -8,8 +8,8 @@ use lib.ListN.{length, getD, take, drop}
 use Rattle.rules.specs.Reach.{Run}
 use Rattle.rules.specs.Refusal.{Refusal, refuse, Check, Fault, Passes, demand}
 use Rattle.rules.specs.Good.{runChecks}
-use Rattle.decide.specs.Touch.{NONE}
-use Rattle.block.specs.Layout.{runBlock}
+use Rattle.rules.specs.Verdict.{NONE}
+use Rattle.block.specs.Layout.{Blocks, runBlock}
 use Rattle.block.specs.Reading.{runBlockChecks}
 use Rattle.room.specs.Image.{count, roomChecks}
 use Rattle.room.specs.Verdicts.{CodeOf}
@@ -77,10 +77,8 @@ page codes n = pieces ++ (digits n ++ (feed ++ pieceLines codes n))
 
 -- ---- the answer
 -- a multiple of 512, from 1,024 to 65,536
-pub record Whole (input : List ℕ) : Type 0 where
-  pub blocks : length input % 512 ≡ 0
-  pub least : 1024 ≤ length input
-  pub most : length input ≤ 65536
+abbrev pub Whole : List ℕ → Type 0
+Whole input = Blocks 1024 65536 input
 
 unfoldable pub lengthChecks : List ℕ → List Check
 lengthChecks input = demand (Whole input) (refuse 1 0 0) ∷ []

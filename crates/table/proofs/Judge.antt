@@ -17,7 +17,7 @@ use Rattle.rules.specs.Reach.{Between, Reach, Speed, Run, Piece}
 use Rattle.rules.specs.Ring.{Pt, Ring, ring, next, from, to, Neighbours, Share}
 use Rattle.rules.specs.Refusal.{Check, Passes}
 use Rattle.rules.specs.Verdict as rules
-use Rattle.rules.specs.Verdict.{Answer, clear, blocked, verdictChecks}
+use Rattle.rules.specs.Verdict.{Answer, clear, blocked, verdictChecks, answer}
 use Rattle.rules.proofs.Checks.{passes-append, fault-left, fault-right}
 use Rattle.rules.specs.Good.{Sized, Same, Meet, FirstMeet, area, runNumber, bandNumber, runChecks, sizedCheck, bandCheck, shapeChecks, footprintChecks, pieceChecks}
 use Rattle.rules.specs.Place.{Where, on, inside, outside, Counted, Count, start, more, pass, Place, pointNumber, placeChecks}
@@ -28,7 +28,7 @@ use Rattle.refusal.specs.Said.{Finds}
 use Rattle.refusal.specs.declared.Checked.{Checked}
 use Rattle.refusal.specs.declared.Checked.the-variants.{Good, Refused}
 use Rattle.refusal.specs.declared.Refusal.the-variants as refusal
-use Rattle.decide.specs.Touch.{place, code, answer}
+use Rattle.decide.specs.Touch.{place, code}
 use Rattle.decide.proofs.Verdict.{verdict-right}
 use Rattle.decide.proofs.Place.{place-right}
 use Rattle.piece.specs.declared.Placed.{Placed}
@@ -333,7 +333,7 @@ verdictOf r k = telling (runOf r) (judge k) (answer (code r k))
 
 pub verdict-tells : (r : Run) (k : Piece) → Tells r k (verdictOf r k)
 unfolding verdictOf verdictChecks
-verdict-tells r k = go (runOf r) (judge k) (answer (code r k)) (run-right r) (judge-right k) (λ p. verdict-right r k (run-known r p .ticks))
+verdict-tells r k = go (runOf r) (judge k) (answer (code r k)) (run-right r) (judge-right k) (λ p. verdict-right r k (run-known r p 6 (omega arith)))
   where
     go : (c d : Checked) (a : Answer) → Finds (runChecks r) c → Finds (pieceChecks k) d → (Passes (runChecks r) → rules.Verdict r k a) → Tells r k (telling c d a)
     go (Refused x) d a f g h = fault-left (runChecks r) (pieceChecks k) _ f

@@ -10,13 +10,13 @@ use Rattle.book.proofs.answer.Tie as tie
 
 home-of-requires : tie.Need-home-of-requires
 home-of-requires c κs =
-    let b = c .before .before .before in let a = b .args in let s = slots-of (now (a .book)) (runOf (a .run)) (pieceOf (a .band) (now (a .corners))) (b .pre .0) .least in
+    let b = c .before .before .before in let a = b .args in let s = slots-of (now (a .book)) (runOf (a .run)) (pieceOf (a .band) (now (a .corners))) (b .pre .0) .above in
     (b .pre .1 .long, omega arith)
 
 look-requires : tie.Need-look-requires
 look-requires c κs =
     let b = c .before .before .before .before .before .before in let a = b .args in let k = pieceOf (a .band) (now (a .corners)) in
-    (in-book (now (a .book)) (now (a .front)) (runOf (a .run)) k _ (b .pre .0) (b .pre .1) (c .before .before .home-of .ensures), (b .pre .1 .long, run-of (now (a .book)) (runOf (a .run)) k (b .pre .0) .ticks))
+    (in-book (now (a .book)) (now (a .front)) (runOf (a .run)) k _ (b .pre .0) (b .pre .1) (c .before .before .home-of .ensures), (b .pre .1 .long, run-of (now (a .book)) (runOf (a .run)) k (b .pre .0) 6 (omega arith)))
 
 enum-known-c : tie.Need-enum-known-c
 enum-known-c c = search needs

@@ -16,11 +16,11 @@ returns c = (inl (λ s. c .if1 .taken (s .whole), refl), refl)
 
 returns-2 : tie.Need-returns-2
 unfolding askChecks
-returns-2 c = (inl (λ s. let l = s .least in omega arith, refl), refl)
+returns-2 c = (inl (λ s. let l = s .above in omega arith, refl), refl)
 
 returns-3 : tie.Need-returns-3
 unfolding askChecks
-returns-3 c = (inl (λ s. let l = s .most in omega arith, refl), refl)
+returns-3 c = (inl (λ s. let l = s .below in omega arith, refl), refl)
 
 slice-aggregate-lay : tie.Need-slice-aggregate-lay
 slice-aggregate-lay c = search needs
@@ -42,14 +42,14 @@ unfolding askChecks
 answer-requires c κs =
     let a = c .before .before .before .before .before .before .before .before .before .before .before .args in let w = c .before .before .before .before .before .lay in
     let g = begins-good (runOf (a .run)) (pieceOf (a .band) (now (a .corners))) (w .last .1 .1 .1 .0) (w .result) (w .ensures) (c .before .before .enum-told .given .1) in
-    ((record { whole = c .before .before .before .before .before .before .before .before .before .if1 .left; least = c .before .before .before .before .before .before .before .before .if2 .left; most = c .before .before .before .before .before .before .before .if3 .left }, g .0), g .1)
+    ((record { whole = c .before .before .before .before .before .before .before .before .before .if1 .left; above = c .before .before .before .before .before .before .before .before .if2 .left; below = c .before .before .before .before .before .before .before .if3 .left }, g .0), g .1)
 
 returns-4 : tie.Need-returns-4
 unfolding askChecks
 returns-4 c =
     let a = c .before .before .before .before .before .before .before .before .before .before .args in let w = c .before .before .before .before .lay in let x = c .before .x .given in (
       inr (
-        record { whole = c .before .before .before .before .before .before .before .before .if1 .left; least = c .before .before .before .before .before .before .before .if2 .left; most = c .before .before .before .before .before .before .if3 .left },
+        record { whole = c .before .before .before .before .before .before .before .before .if1 .left; above = c .before .before .before .before .before .before .before .if2 .left; below = c .before .before .before .before .before .before .if3 .left },
         begins-bad (runOf (a .run)) (pieceOf (a .band) (now (a .corners))) (w .last .1 .1 .1 .0) (w .result) (w .ensures) (x .0 .0) (x .1),
       ),
       refl,

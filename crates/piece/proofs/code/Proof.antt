@@ -1,10 +1,10 @@
 -- `code` is the coded verdict where every number is within reach, and 0 otherwise. Assumes nothing.
 use mathlib.Core.Path.{refl, sym, subst}
 use Prim.Native.Nat.{ℕ}
+use native.Mathlib.Omega.{arith}
 use borrow.Author.Needs.{needs}
 use borrow.Author.Tests.{not-true, not-false}
-use Rattle.rules.specs.Verdict.{Verdict}
-use Rattle.decide.specs.Touch.{answer}
+use Rattle.rules.specs.Verdict.{Verdict, answer}
 use Rattle.decide.proofs.Verdict.{verdict-right}
 use Rattle.piece.specs.Numbers.{runOf, pieceOf}
 use Rattle.piece.proofs.Decide.{yes, no}
@@ -24,7 +24,7 @@ returns-2 : tie.Need-returns-2
 returns-2 c =
     let b = c .before .before .before in
     record {
-      verdict = λ r k. subst (λ (n : ℕ). Verdict (runOf (b .args .run)) (pieceOf (b .args .band) (b .args .corners .now)) (answer n)) (sym (c .code .ensures)) (verdict-right _ _ (r .ticks));
+      verdict = λ r k. subst (λ (n : ℕ). Verdict (runOf (b .args .run)) (pieceOf (b .args .band) (b .args .corners .now)) (answer n)) (sym (c .code .ensures)) (verdict-right _ _ (r 6 (omega arith)));
       otherwise = λ f. absurd (f (yes _ (c .before .before .known .result) (c .before .before .known .ensures) (not-false _ (c .before .if1 .left))));
     }
 

@@ -1,16 +1,16 @@
 -- `verdict` meets its contract. Assumes nothing.
 use mathlib.Core.Path.{sym, subst}
 use Prim.Native.Nat.{ℕ}
+use native.Mathlib.Omega.{arith}
 use borrow.Author.Needs.{needs}
 use borrow.Author.Tests.{ne-eqb}
 use Rattle.rules.specs.Reach.{Run, Piece}
 use Rattle.rules.specs.Refusal.{Passes}
 use Rattle.rules.specs.Good.{runChecks, pieceChecks}
-use Rattle.rules.specs.Verdict.{Verdict, verdictChecks}
+use Rattle.rules.specs.Verdict.{Verdict, verdictChecks, NONE, answer}
 use Rattle.rules.proofs.Checks.{passes-append, fault-left, fault-right}
 use Rattle.rules.proofs.Reach.{run-known, piece-known}
 use Rattle.refusal.specs.Said.{Finds}
-use Rattle.decide.specs.Touch.{NONE, answer}
 use Rattle.decide.proofs.Verdict.{verdict-right}
 use Rattle.piece.specs.Numbers.{runOf, pieceOf}
 use Rattle.piece.proofs.verdict.Statement.{statement}
@@ -71,7 +71,7 @@ code-requires c κs = (run-known _ (run-good (c .before .before .before)), piece
 right : (c : tie.After-code) → let b = c .before .before .before .before .before .before .before in Verdict (R b) (K b) (answer (c .code .result))
 right c =
     let b = c .before .before .before .before .before .before .before in
-    subst (λ (n : ℕ). Verdict (R b) (K b) (answer n)) (sym (c .code .ensures)) (verdict-right (R b) (K b) (run-known _ (run-good (c .before .before .before .before)) .ticks))
+    subst (λ (n : ℕ). Verdict (R b) (K b) (answer n)) (sym (c .code .ensures)) (verdict-right (R b) (K b) (run-known _ (run-good (c .before .before .before .before)) 6 (omega arith)))
 
 returns-3 : tie.Need-returns-3
 returns-3 c =

@@ -2,7 +2,7 @@
 use mathlib.Core.Path.{sym, ap, subst, _∙_}
 use Prim.Native.Nat.{ℕ, suc}
 use denote.Ref.{now}
-use Rattle.room.specs.Image.{blockAt}
+use Rattle.block.specs.Layout.{blockAt}
 use Rattle.room.specs.Step.{pieceRead, Gives, StepFinds}
 use Rattle.baker.specs.Listed.{out, stepFound}
 use Rattle.baker.proofs.Listed.{read-holds}

@@ -9,7 +9,7 @@ use lib.Dec.{leb}
 use lib.ListN.{length}
 use mathlib.Core.List.{[]}
 use Rattle.rules.specs.Good.{Sized, RunKnown, PieceKnown, runChecks}
-use Rattle.rules.proofs.Reach.{run-known, numbers-known, run-number, band-number}
+use Rattle.rules.proofs.Reach.{run-known, numbers-known}
 use Rattle.piece.specs.Numbers.{runOf, pieceOf}
 use Rattle.piece.proofs.Decide.{none-found, decide-by, yes, no}
 use Rattle.piece.proofs.Finds.{band-seeks}
@@ -20,7 +20,7 @@ run-fault-requires : tie.Need-run-fault-requires
 run-fault-requires c κs = search needs
 
 returns : tie.Need-returns
-returns c h = c .before .run-fault .ensures .found (c .if1 .taken) (run-number _ (h .0) _ (c .if1 .taken))
+returns c h = c .before .run-fault .ensures .found (c .if1 .taken) (h .0 _ (c .if1 .taken))
 
 sized-requires : tie.Need-sized-requires
 sized-requires c κs = search needs
@@ -34,7 +34,7 @@ band-fault-requires c κs = search needs
 returns-3 : tie.Need-returns-3
 returns-3 c h =
     let b = c .before .before .before .before .before .before in
-    band-seeks (b .args .band) [] (b .args .l .now) _ (c .before .band-fault .ensures) .found (c .if3 .taken) (band-number _ (h .1) _ (c .if3 .taken))
+    band-seeks (b .args .band) [] (b .args .l .now) _ (c .before .band-fault .ensures) .found (c .if3 .taken) (h .1 .band _ (c .if3 .taken))
 
 first-stray-requires : tie.Need-first-stray-requires
 first-stray-requires c κs = search needs

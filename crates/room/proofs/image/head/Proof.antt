@@ -8,20 +8,21 @@ use denote.Ref.{now}
 use Rattle.block.specs.Reading.{HeaderSays}
 use Rattle.block.specs.declared.HeaderRead.{HeaderRead}
 use Rattle.block.specs.declared.HeaderRead.the-variants.{Count, NoHeader}
-use Rattle.room.specs.Image.{blockAt, Whole}
+use Rattle.block.specs.Layout.{blockAt}
+use Rattle.room.specs.Image.{Whole}
 use Rattle.room.proofs.Images.{not-whole, no-header, head-good, head-bad}
 use borrow.Author.Needs.{needs}
 use Rattle.room.proofs.image.head.Statement.{statement}
 use Rattle.room.proofs.image.head.Tie as tie
 
 returns : tie.Need-returns
-returns c = not-whole (now (c .before .before .args .image)) (λ w. c .if1 .taken (w .blocks))
+returns c = not-whole (now (c .before .before .args .image)) (λ w. c .if1 .taken (w .whole))
 
 returns-2 : tie.Need-returns-2
-returns-2 c = not-whole (now (c .before .before .before .args .image)) (λ w. let h = w .least in omega arith)
+returns-2 c = not-whole (now (c .before .before .before .args .image)) (λ w. let h = w .above in omega arith)
 
 returns-3 : tie.Need-returns-3
-returns-3 c = not-whole (now (c .before .before .before .before .args .image)) (λ w. let h = w .most in omega arith)
+returns-3 c = not-whole (now (c .before .before .before .before .args .image)) (λ w. let h = w .below in omega arith)
 
 slice-aggregate-read-header : tie.Need-slice-aggregate-read-header
 slice-aggregate-read-header c = sym (length-take-le 512 (now (c .before .before .before .before .before .args .image)) (c .before .before .if2 .left))
@@ -34,7 +35,7 @@ abbrev image : tie.After-read-header → List ℕ
 image c = now (c .before .before .before .before .before .before .args .image)
 
 whole : (c : tie.After-read-header) → Whole (image c)
-whole c = record { blocks = c .before .before .before .before .if1 .left; least = c .before .before .before .if2 .left; most = c .before .before .if3 .left }
+whole c = record { whole = c .before .before .before .before .if1 .left; above = c .before .before .before .if2 .left; below = c .before .before .if3 .left }
 
 says : (c : tie.After-read-header) → HeaderSays (blockAt (image c) 0) (c .read-header .result)
 unfolding blockAt

@@ -6,7 +6,7 @@ use lib.Seq.{length-take-le}
 use denote.Ref.{now}
 use Rattle.piece.specs.Numbers.{runOf}
 use Rattle.block.specs.Reading.{PieceGood}
-use Rattle.room.specs.Image.{blockAt}
+use Rattle.block.specs.Layout.{blockAt}
 use Rattle.room.proofs.Steps.{piece-good, piece-bad}
 use Rattle.room.proofs.Coding.{held-few, held-long, code-good}
 use borrow.Author.Needs.{needs}

@@ -8,7 +8,7 @@ use Rattle.shade.proofs.answer.check_length.Tie as tie
 
 returns : tie.Need-returns
 unfolding lengthChecks
-returns c = inl ((λ w. c .if1 .taken (w .blocks)), refl)
+returns c = inl ((λ w. c .if1 .taken (w .whole)), refl)
 
 returns-2 : tie.Need-returns-2
 unfolding lengthChecks
@@ -20,7 +20,7 @@ returns-3 c = inl ((λ w. omega arith), refl)
 
 returns-4 : tie.Need-returns-4
 unfolding lengthChecks
-returns-4 c = (record { blocks = c .before .before .if1 .left; least = omega arith; most = omega arith }, tt)
+returns-4 c = (record { whole = c .before .before .if1 .left; above = omega arith; below = omega arith }, tt)
 
 pub check-length-spec : {M : Type 1} → statement M
 check-length-spec = tie.close (tie.spec returns returns-2 returns-3 returns-4)

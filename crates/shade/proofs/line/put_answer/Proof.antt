@@ -1,6 +1,6 @@
 -- `shade::line::put_answer` meets its contract. Assumes nothing.
 use borrow.Author.Tests.{eq-eqb, ne-eqb}
-use Rattle.decide.specs.Touch.{NONE}
+use Rattle.rules.specs.Verdict.{NONE}
 use borrow.Author.Needs.{needs}
 use Rattle.shade.proofs.line.put_answer.Statement.{statement}
 use Rattle.shade.proofs.line.put_answer.Tie as tie
