@@ -49,6 +49,11 @@ pub sum-more : (f : ℕ → ℕ) (n : ℕ) → sum f (n + 1) ≡ sum f n + f n
 unfolding sum
 sum-more f n = let e : n + 1 ≡ suc n = omega arith in rw e
 
+pub sum-split : (f : ℕ → ℕ) (m n : ℕ) → sum f (m + n) ≡ sum f m + sum (λ j. f (m + j)) n
+unfolding sum
+sum-split f m zero = let e : m + 0 ≡ m = omega arith in rw e (omega arith)
+sum-split f m (suc n) = let e : m + suc n ≡ suc (m + n) = omega arith in rw e (omega (arith, sum-split f m n))
+
 pub plain-below : (l : List ℕ) → plainSum l < 255
 unfolding plainSum
 plain-below l = omega arith

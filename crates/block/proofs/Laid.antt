@@ -13,8 +13,7 @@ use Rattle.whole.proofs.Order.{le-trans}
 use Rattle.rules.specs.Reach.{Between, Reach, Speed}
 use Rattle.block.specs.Layout.{byte, word, words, blockOf}
 use Rattle.block.specs.Reading.{Sealed, Half}
-use Rattle.block.specs.Scan.{Front}
-use Rattle.block.proofs.Bytes.{Alike, block-at, block-is, block-same}
+use Rattle.block.proofs.Bytes.{Alike, block-at, block-is}
 use Rattle.block.proofs.Words.{halves, words-length, front-low, front-high, front-low-at, front-high-at}
 
 pub few : (a b : ℕ) (zs : List ℤ) → length zs ≤ 254 → length (a ∷ b ∷ words zs) ≤ 510
@@ -45,10 +44,6 @@ module _ (l : List ℕ) (bytes : (i : ℕ) → Fits w8 (byte l i)) (a b : ℕ) (
 
   pub laid-is : length zs ≤ 254 → length l ≡ 512 → Sealed l → byte l 0 ≡ a → byte l 1 ≡ b → l ≡ blockOf (a ∷ b ∷ words zs)
   laid-is h k s e f = block-is l (a ∷ b ∷ words zs) (few a b zs h) k s (alike e f)
-
--- first bytes with zeros after them make the same block
-pub front-block : (a b : ℕ) (zs : List ℤ) (front : List ℕ) → length zs ≤ 254 → Front a b zs front → blockOf front ≡ blockOf (a ∷ b ∷ words zs)
-front-block a b zs front h f = block-same front (a ∷ b ∷ words zs) (omega (arith, f .few)) (few a b zs h) (λ i k. f .each i)
 
 -- the numbers of a block
 pub laid-numbers : (a b : ℕ) (zs : List ℤ) → length zs ≤ 254 → Numbers (blockOf (a ∷ b ∷ words zs)) zs

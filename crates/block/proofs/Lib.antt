@@ -1,9 +1,11 @@
 pub mod Bodies
 pub mod Bytes
 pub mod Face
+pub mod Flags
 pub mod Found
 pub mod Headers
 pub mod Laid
+pub mod Parts
 pub mod PieceLaws
 pub mod RoundTrip
 pub mod RunLaws

@@ -8,8 +8,9 @@ use lib.IntN.{ℤ, pos}
 use lib.ListN.{length, getD, take, drop, replicate, length-replicate, length-drop, take-append-drop, List·getD-eq-default}
 use lib.Seq.{length-take-le, getD-take, getD-drop, ext-getD}
 use lib.Signed.{leZ-yes}
-use mir.Syntax.{w8}
-use mir.Val.{Fits}
+use mir.Syntax.{w8, w32}
+use mir.Val.{Fits, SFits, toZ, ofZ}
+use mir.Facts.{toZ-ofZ}
 use Rattle.whole.proofs.Order.{ℕ-or}
 use Rattle.rules.specs.Reach.{Corners, Piece}
 use Rattle.rules.specs.Ring.{ring}
@@ -25,9 +26,8 @@ use Rattle.piece.specs.declared.Band.{Band}
 use Rattle.piece.specs.Numbers.{pieceOf}
 use Rattle.block.specs.declared.PieceRead.{PieceRead}
 use Rattle.block.specs.Layout.{byte, word, words, filled, blockOf, pieceNumbers, pieceBody, pieceBlock}
-use Rattle.block.specs.Reading.{Half, PieceIn, inside, blockChecks, pieceBytes, pieceBlockChecks, Holds, nothing, PieceFound, PieceSays}
+use Rattle.block.specs.Reading.{Half, PieceIn, inside, blockChecks, pieceBytes, pieceBlockChecks, Holds, nothing, PieceFound, PieceSays, Word}
 use Rattle.block.specs.Scan.{BandAt, CornersAt}
-use Rattle.block.specs.Word.{Word}
 use Rattle.block.proofs.Bytes.{filled-at, filled-length, block-length, block-at, block-sealed, block-same}
 use Rattle.block.proofs.Face.{stable, unnamed-front}
 use Rattle.block.proofs.Words.{half-word, word-one, words-length, no-corners}
@@ -80,6 +80,31 @@ module _ (k : Piece) (p : Passes (pieceChecks k)) where
 
   pub good-in : PieceIn (pieceBlock k) k
   good-in = record { signed = good-half; sized = good-sized; same = refl }
+
+-- ---- a band's numbers, as the machine has them in an array
+abbrev pub machine : Band → List ℤ
+machine b =
+    toZ w32 (ofZ w32 (b .bottom))
+    ∷ toZ w32 (ofZ w32 (b .top))
+    ∷ toZ w32 (ofZ w32 (b .vx))
+    ∷ toZ w32 (ofZ w32 (b .vy))
+    ∷ toZ w32 (ofZ w32 (b .vz))
+    ∷ []
+
+-- the numbers before the corners
+abbrev pub bandNumbers : Band → List ℤ
+bandNumbers b = b .bottom ∷ b .top ∷ b .vx ∷ b .vy ∷ b .vz ∷ []
+
+pub read-band : (b : Band) → SFits w32 (b .bottom) → SFits w32 (b .top) → SFits w32 (b .vx) → SFits w32 (b .vy) → SFits w32 (b .vz) → machine b ≡ bandNumbers b
+read-band b p q r s t = rw (toZ-ofZ p, toZ-ofZ q, toZ-ofZ r, toZ-ofZ s, toZ-ofZ t)
+
+pub band-word : (b : Band) (l : List ℤ) → Passes (pieceChecks (pieceOf b l)) → (j : ℕ) → j < 5 → Word (getD (bandNumbers b) j (pos 0))
+band-word b l p zero h = good-word (pieceOf b l) p 0
+band-word b l p (suc zero) h = good-word (pieceOf b l) p 1
+band-word b l p (suc (suc zero)) h = good-word (pieceOf b l) p 2
+band-word b l p (suc (suc (suc zero))) h = good-word (pieceOf b l) p 3
+band-word b l p (suc (suc (suc (suc zero)))) h = good-word (pieceOf b l) p 4
+band-word b l p (suc (suc (suc (suc (suc j))))) h = absurd (omega arith)
 
 -- ---- the block of a good piece passes
 piece-bytes : (k : Piece) → Sized (k .corners) → Passes (blockChecks (pieceBlock k) ++ pieceBytes (pieceBlock k))

@@ -18,9 +18,8 @@ use Rattle.rules.proofs.Checks.{passes-append, passes-left, passes-right}
 use Rattle.piece.specs.declared.Run as plain
 use Rattle.piece.specs.Numbers.{runOf}
 use Rattle.block.specs.Layout.{byte, word, words, runNumbers, runBody, runBlock}
-use Rattle.block.specs.Reading.{Half, RunIn, inside, blockChecks, runBytes, runBlockChecks}
+use Rattle.block.specs.Reading.{Half, RunIn, inside, blockChecks, runBytes, runBlockChecks, Word}
 use Rattle.block.specs.Scan.{RunAt}
-use Rattle.block.specs.Word.{Word}
 use Rattle.block.proofs.Bytes.{block-length, block-at, block-sealed}
 use Rattle.block.proofs.Face.{stable, unnamed-front}
 use Rattle.block.proofs.Words.{half-word, word-one}

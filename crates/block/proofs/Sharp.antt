@@ -1,11 +1,12 @@
 -- The checks of blocks are sharp: each list of bytes has at most one first fault. Assumes nothing.
 use mathlib.Core.List.{List, [], _∷_, _++_}
 use Prim.Native.Nat.{ℕ}
+use lib.IntN.{ℤ}
 use Rattle.rules.specs.Reach.{Run, Piece}
 use Rattle.rules.specs.Good.{runChecks, pieceChecks}
 use Rattle.rules.proofs.Checks.{AllSharp, sharp-demand, sharp-each, sharp-append}
 use Rattle.rules.proofs.Good.{sharp-run, sharp-piece}
-use Rattle.block.specs.Reading.{blockChecks, headerBytes, headerChecks, runBytes, pieceBytes, RunIn, PieceIn, inside, runBlockChecks, pieceBlockChecks, headerAsked, bytesAsked, runAsked, pieceAsked}
+use Rattle.block.specs.Reading.{blockChecks, headerBytes, headerChecks, runBytes, pieceBytes, RunIn, PieceIn, inside, runBlockChecks, pieceBlockChecks, headerAsked, bytesAsked, wordsAsked, runAsked, pieceAsked}
 use Rattle.block.proofs.Found.{sharp-inside}
 use Rattle.block.proofs.RunLaws.{run-one}
 use Rattle.block.proofs.PieceLaws.{piece-one}
@@ -44,6 +45,10 @@ sharp-piece-block l =
 pub sharp-bytes-asked : (l front : List ℕ) → AllSharp (bytesAsked l front)
 unfolding bytesAsked
 sharp-bytes-asked l front = (sharp-demand _ _, (sharp-demand _ _, tt))
+
+pub sharp-words-asked : (bytes : List ℕ) (numbers : List ℤ) → AllSharp (wordsAsked bytes numbers)
+unfolding wordsAsked
+sharp-words-asked bytes numbers = (sharp-demand _ _, (sharp-each _ _ _, tt))
 
 pub sharp-header-asked : (l : List ℕ) (n : ℕ) → AllSharp (headerAsked l n)
 unfolding headerAsked

@@ -2,6 +2,7 @@
 use mathlib.Core.Path.{_≡_, refl, sym, ap, subst, _∙_}
 use mathlib.Core.List.{List}
 use Prim.Native.Nat.{ℕ}
+use lib.IntN.{ℤ}
 use Rattle.rules.specs.Reach.{Piece}
 use Rattle.rules.specs.Refusal.{Check, Passes}
 use Rattle.rules.proofs.Checks.{AllSharp, never-both}
@@ -16,13 +17,13 @@ use Rattle.block.specs.declared.HeaderRead.the-variants.{Count, NoHeader
 use Rattle.block.specs.declared.RunRead.{RunRead}
 use Rattle.block.specs.declared.RunRead.the-variants.{Found, NoRun}
 use Rattle.block.specs.declared.PieceRead.{PieceRead}
-use Rattle.block.specs.Layout.{headerBlock, runBlock, pieceBlock, blockOf}
-use Rattle.block.specs.Reading.{blockChecks, headerChecks, runBlockChecks, pieceBlockChecks, headerAsked, bytesAsked, runAsked, pieceAsked, HeaderSays, RunIn, RunSays, PieceIn, Holds, PieceGood, PieceFound, PieceSays, Writes}
+use Rattle.block.specs.Layout.{words, headerBlock, runBlock, pieceBlock, blockOf}
+use Rattle.block.specs.Reading.{blockChecks, headerChecks, runBlockChecks, pieceBlockChecks, headerAsked, bytesAsked, wordsAsked, runAsked, pieceAsked, HeaderSays, RunIn, RunSays, PieceIn, Holds, PieceGood, PieceFound, PieceSays, Writes}
 use Rattle.block.proofs.Found.{refused-one}
 use Rattle.block.proofs.Headers.{header-passes, header-one}
 use Rattle.block.proofs.RunLaws as runs
 use Rattle.block.proofs.PieceLaws as pieces
-use Rattle.block.proofs.Sharp.{sharp-block, sharp-header, sharp-run-block, sharp-piece-block, sharp-bytes-asked, sharp-header-asked, sharp-run-asked, sharp-piece-asked}
+use Rattle.block.proofs.Sharp.{sharp-block, sharp-header, sharp-run-block, sharp-piece-block, sharp-bytes-asked, sharp-words-asked, sharp-header-asked, sharp-run-asked, sharp-piece-asked}
 
 -- ---- check_block
 pub check-block-one : (l : List ℕ) (r s : Checked) → Finds (blockChecks l) r → Finds (blockChecks l) s → r ≡ s
@@ -37,6 +38,9 @@ writes-one cs h made before a b (Refused x) (Refused y) f g = (ap Refused (refus
 
 pub write-bytes-one : (front before a b : List ℕ) (r s : Checked) → Writes (bytesAsked before front) (blockOf front) before a r → Writes (bytesAsked before front) (blockOf front) before b s → (r ≡ s) × (a ≡ b)
 write-bytes-one front before a b r s = writes-one (bytesAsked before front) (sharp-bytes-asked before front) (blockOf front) before a b r s
+
+pub write-words-one : (numbers : List ℤ) (before a b : List ℕ) (r s : Checked) → Writes (wordsAsked before numbers) (words numbers) before a r → Writes (wordsAsked before numbers) (words numbers) before b s → (r ≡ s) × (a ≡ b)
+write-words-one numbers before a b r s = writes-one (wordsAsked before numbers) (sharp-words-asked before numbers) (words numbers) before a b r s
 
 pub write-header-one : (n : ℕ) (before a b : List ℕ) (r s : Checked) → Writes (headerAsked before n) (headerBlock n) before a r → Writes (headerAsked before n) (headerBlock n) before b s → (r ≡ s) × (a ≡ b)
 write-header-one n before a b r s = writes-one (headerAsked before n) (sharp-header-asked before n) (headerBlock n) before a b r s

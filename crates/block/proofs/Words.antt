@@ -16,9 +16,9 @@ use mir.Val.{SFits, toZ, ofZ}
 use mir.Facts.{toZ-ofZ, toZ-pos}
 use Rattle.whole.proofs.Order.{ℕ-or}
 use Rattle.block.specs.Layout.{byte, word, words}
-use Rattle.block.specs.Reading.{Half}
+use Rattle.block.specs.Reading.{Half, Word}
 use Rattle.block.specs.Scan.{NumberAt}
-use Rattle.block.specs.Word.{Word, Spelt}
+use Rattle.block.specs.Word.{Spelt}
 
 -- even or odd
 pub halves : (n : ℕ) → (n % 2 ≡ 0) ⊎ (n % 2 ≡ 0 → ⊥)
@@ -104,9 +104,6 @@ front-low a b zs i h k = let e : 2 + 2 * ((i - 2) / 2) ≡ i = omega arith in rw
 pub front-high : (a b : ℕ) (zs : List ℤ) (i : ℕ) → 2 ≤ i → (i % 2 ≡ 0 → ⊥) → byte (a ∷ b ∷ words zs) i ≡ word (getD zs ((i - 2) / 2) (pos 0)) / 256
 front-high a b zs i h k = let e : 3 + 2 * ((i - 2) / 2) ≡ i = omega arith in rw e at (front-high-at a b zs ((i - 2) / 2))
 
-pub front-past : (a b : ℕ) (zs : List ℤ) (i : ℕ) → length zs ≤ 133 → 268 ≤ i → byte (a ∷ b ∷ words zs) i ≡ 0
-front-past a b zs i h k = let e : length (a ∷ b ∷ words zs) ≤ i = omega (arith, words-length zs) in List·getD-eq-default (a ∷ b ∷ words zs) 0 e
-
 -- ---- corners, one by one
 corner-at : (l : List ℕ) (j : ℕ) (z : ℤ) → Spelt (byte l (12 + 2 * j)) (byte l (12 + 2 * j + 1)) z → NumberAt l (5 + j) z
 corner-at l j z s = let e : 2 + 2 * (5 + j) ≡ 12 + 2 * j = omega arith in let f : 3 + 2 * (5 + j) ≡ 12 + 2 * j + 1 = omega arith in rw (e, f) s
@@ -131,13 +128,3 @@ pub no-corners : (n k : ℕ) → getD (replicate n (pos 0)) k (pos 0) ≡ pos 0
 no-corners zero k = refl
 no-corners (suc n) zero = refl
 no-corners (suc n) (suc k) = no-corners n k
-
--- lists with the same numbers, zeros after them or not, have the same bytes
-pub front-same : (a b : ℕ) (ys zs : List ℤ) → ((j : ℕ) → getD ys j (pos 0) ≡ getD zs j (pos 0)) → (i : ℕ) → byte (a ∷ b ∷ words ys) i ≡ byte (a ∷ b ∷ words zs) i
-front-same a b ys zs h zero = refl
-front-same a b ys zs h (suc zero) = refl
-front-same a b ys zs h (suc (suc i)) = rest (halves (suc (suc i)))
-  where
-    rest : (suc (suc i) % 2 ≡ 0) ⊎ (suc (suc i) % 2 ≡ 0 → ⊥) → byte (a ∷ b ∷ words ys) (suc (suc i)) ≡ byte (a ∷ b ∷ words zs) (suc (suc i))
-    rest (inl e) = front-low a b ys (suc (suc i)) (omega arith) e ∙ ap (λ z. word z % 256) (h ((suc (suc i) - 2) / 2)) ∙ sym (front-low a b zs (suc (suc i)) (omega arith) e)
-    rest (inr e) = front-high a b ys (suc (suc i)) (omega arith) e ∙ ap (λ z. word z / 256) (h ((suc (suc i) - 2) / 2)) ∙ sym (front-high a b zs (suc (suc i)) (omega arith) e)

@@ -73,6 +73,10 @@ pieceBytes l =
 abbrev pub Half : ℤ → Type 0
 Half z = Between (negsuc 32767) (pos 32767) z
 
+-- and signed or not
+abbrev pub Word : ℤ → Type 0
+Word z = Between (negsuc 32767) (pos 65535) z
+
 -- l is the block of the run r, whose numbers two bytes hold
 pub record RunIn (l : List ℕ) (r : Run) : Type 0 where
   pub signed : (j : ℕ) → j < 6 → Half (getD (runNumbers r) j (pos 0))
@@ -146,6 +150,13 @@ headerAsked l n = lengthCheck l ∷ demand (Pieces n) (refuse 3 5 0) ∷ []
 -- first bytes to be put into a block, at most 510
 unfoldable pub bytesAsked : List ℕ → List ℕ → List Check
 bytesAsked l front = lengthCheck l ∷ demand (length front ≤ 510) (refuse 1 0 0) ∷ []
+
+-- numbers to be put into as many pairs of bytes; number i stands at byte 2·i
+abbrev pub Wide : List ℤ → ℕ → Type 0
+Wide numbers j = Word (getD numbers j (pos 0)) → ⊥
+
+unfoldable pub wordsAsked : List ℕ → List ℤ → List Check
+wordsAsked bytes numbers = demand (length bytes ≡ 2 * length numbers) (refuse 1 0 0) ∷ each (Wide numbers) (length numbers) (λ i. refuse 4 (2 * i) 0) ∷ []
 
 -- a run or a piece in plain numbers
 unfoldable pub runAsked : List ℕ → Run → List Check

@@ -4,11 +4,14 @@ use mathlib.Core.List.{List, [], _∷_, _++_}
 use Prim.Native.Nat.{ℕ, _+_, _*_, _≤_, _<_}
 use lib.IntN.{ℤ, pos}
 use lib.ListN.{length, getD}
-use Rattle.rules.specs.Reach.{Piece}
 use Rattle.piece.specs.declared.Run.{Run}
 use Rattle.piece.specs.declared.Band.{Band}
-use Rattle.block.specs.Layout.{byte, words, name, pieceNumbers}
+use Rattle.block.specs.Layout.{byte, name}
 use Rattle.block.specs.Word.{Spelt}
+
+-- the bytes from here up to there are zero
+abbrev pub Clean : List ℕ → ℕ → ℕ → Type 0
+Clean l from to = (i : ℕ) → from ≤ i → i < to → byte l i ≡ 0
 
 -- r is the first byte at or after `from` that is not zero, or 510
 pub record FirstByte (l : List ℕ) (from r : ℕ) : Type 0 where
@@ -22,11 +25,6 @@ pub record FirstLetter (l : List ℕ) (r : ℕ) : Type 0 where
   pub below : r ≤ 4
   pub before : (k : ℕ) → k < r → byte l k ≡ getD name k 0
   pub found : r < 4 → byte l r ≡ getD name r 0 → ⊥
-
--- two bytes and then numbers: what stands before the zeros
-pub record Front (kind second : ℕ) (numbers : List ℤ) (front : List ℕ) : Type 0 where
-  pub few : length front ≡ 268
-  pub each : (i : ℕ) → byte front i ≡ byte (kind ∷ second ∷ words numbers) i
 
 -- number j of a block stands at byte 2 + 2·j
 abbrev pub NumberAt : List ℕ → ℕ → ℤ → Type 0
@@ -57,8 +55,3 @@ pub record CornersAt (l : List ℕ) (n : ℕ) (a : List ℤ) : Type 0 where
 -- the first bytes of a header
 abbrev pub HeaderFront : ℕ → List ℕ → Type 0
 HeaderFront n front = front ≡ name ++ (1 ∷ n ∷ [])
-
--- the numbers of a piece, with zeros after them
-pub record PieceNumbers (k : Piece) (a : List ℤ) : Type 0 where
-  pub all : length a ≡ 133
-  pub each : (j : ℕ) → getD a j (pos 0) ≡ getD (pieceNumbers k) j (pos 0)

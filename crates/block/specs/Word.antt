@@ -1,14 +1,9 @@
 -- A number and its two bytes. Assumes nothing.
 use mathlib.Core.Path.{_≡_}
 use Prim.Native.Nat.{ℕ, _+_, _*_}
-use lib.IntN.{ℤ, pos, negsuc}
-use Rattle.rules.specs.Reach.{Between}
+use lib.IntN.{ℤ}
 use Rattle.block.specs.Layout.{word}
 use Rattle.block.specs.Reading.{Half}
-
--- what two bytes hold, signed or not
-abbrev pub Word : ℤ → Type 0
-Word z = Between (negsuc 32767) (pos 65535) z
 
 -- z is the signed number of these two bytes
 pub record Spelt (low high : ℕ) (z : ℤ) : Type 0 where

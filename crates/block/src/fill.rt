@@ -1,19 +1,18 @@
 // Bytes into a lent block.
 use crate::sums::seal;
 use crate::word::bits_of;
+use crate::word::fits;
 use crate::word::high;
 use crate::word::low;
 use refusal::Checked;
 use refusal::Refusal;
 ghost use mathlib.Core.Path.{_≡_};
-ghost use mathlib.Core.List.{_∷_};
-ghost use Prim.Native.Nat.{ℕ, _+_, _*_, _/_, _%_, _≤_, _<_};
+ghost use Prim.Native.Nat.{ℕ, suc, _+_, _*_, _/_, _%_, _≤_, _<_};
 ghost use lib.IntN.{pos};
-ghost use lib.ListN.{length, getD, set};
+ghost use lib.ListN.{length, getD, set, take};
 ghost use Rattle.block.specs.Layout.{byte, word, words, blockOf};
-ghost use Rattle.block.specs.Word.{Word};
-ghost use Rattle.block.specs.Reading.{Writes, bytesAsked};
-ghost use Rattle.block.specs.Scan.{Front};
+ghost use Rattle.piece.specs.Decide.{Seeks};
+ghost use Rattle.block.specs.Reading.{Writes, Word, Wide, bytesAsked, wordsAsked};
 
 fn copy(front: &[u8], block: &mut [u8])
     requires { ⌜ (length (now front) ≤ 510) × (length (now block) ≡ 512) ⌝ }
@@ -37,12 +36,13 @@ fn clear(block: &mut [u8], from: usize)
     }
 }
 
-fn fill(front: &[u8], block: &mut [u8])
-    requires { ⌜ (length (now front) ≤ 510) × (length (now block) ≡ 512) ⌝ }
-    ensures { λ _. ⌜ (length (now (block .exit)) ≡ 512) × ((i : ℕ) → i < 510 → byte (now (block .exit)) i ≡ byte (now (front .entry)) i) ⌝ }
+// The block of the bytes before `end`: zeros follow them, and the check.
+pub(crate) fn finish(block: &mut [u8], end: usize)
+    requires { ⌜ (end ≤ 510) × (length (now block) ≡ 512) ⌝ }
+    ensures { λ _. ⌜ now (block .exit) ≡ blockOf (take end (now (block .entry))) ⌝ }
 {
-    copy(front, block);
-    clear(block, front.len());
+    clear(block, end);
+    seal(block);
 }
 
 // The block of its first bytes.
@@ -50,8 +50,8 @@ pub(crate) fn put(front: &[u8], block: &mut [u8])
     requires { ⌜ (length (now front) ≤ 510) × (length (now block) ≡ 512) ⌝ }
     ensures { λ _. ⌜ now (block .exit) ≡ blockOf (now (front .entry)) ⌝ }
 {
-    fill(front, block);
-    seal(block);
+    copy(front, block);
+    finish(block, front.len());
 }
 
 // The first bytes of a block, for whoever lays them out: at most 510; zeros and the check follow.
@@ -68,34 +68,56 @@ pub fn write_bytes(front: &[u8], block: &mut [u8]) -> Checked
     Checked::Good
 }
 
-pub(crate) fn number_in(numbers: &[i32], j: usize) -> i32
-    ensures { λ r. ⌜ r ≡ getD (now (numbers .entry)) j (pos 0) ⌝ }
-{
-    if j < numbers.len() { numbers[j] } else { 0 }
-}
-
 // The two bytes of number j, in their place.
-fn lay(front: &mut [u8], j: usize, z: i32)
-    requires { ⌜ (j < 133) × ((length (now front) ≡ 268) × Word z) ⌝ }
-    ensures { λ _. ⌜ now (front .exit) ≡ set (set (now (front .entry)) (2 + 2 * j) (word z % 256)) (3 + 2 * j) (word z / 256) ⌝ }
+fn pair(bytes: &mut [u8], j: usize, z: i32)
+    requires { ⌜ (2 * suc j ≤ length (now bytes)) × Word z ⌝ }
+    ensures { λ _. ⌜ now (bytes .exit) ≡ set (set (now (bytes .entry)) (2 * j) (word z % 256)) (2 * j + 1) (word z / 256) ⌝ }
 {
     let bits = bits_of(z);
-    front[2 + 2 * j] = low(bits);
-    front[3 + 2 * j] = high(bits);
+    bytes[2 * j] = low(bits);
+    bytes[2 * j + 1] = high(bits);
 }
 
-// What stands before the zeros of a run or a piece: kind, a second byte, the numbers.
-pub(crate) fn front_of(kind: u8, second: u8, numbers: &[i32]) -> [u8; 268]
-    requires { ⌜ (length (now numbers) ≤ 133) × ((j : ℕ) → Word (getD (now numbers) j (pos 0))) ⌝ }
-    ensures { λ r. ⌜ Front kind second (now (numbers .entry)) r ⌝ }
+// Numbers into as many pairs of bytes.
+pub(crate) fn lay(numbers: &[i32], bytes: &mut [u8])
+    requires { ⌜ (length (now bytes) ≡ 2 * length (now numbers)) × ((j : ℕ) → j < length (now numbers) → Word (getD (now numbers) j (pos 0))) ⌝ }
+    ensures { λ _. ⌜ now (bytes .exit) ≡ words (now (numbers .entry)) ⌝ }
 {
-    let mut front = [0u8; 268];
-    front[0] = kind;
-    front[1] = second;
     let mut j = 0;
     while j < numbers.len() {
-        lay(&mut front, j, numbers[j]);
+        pair(bytes, j, numbers[j]);
         j += 1;
     }
-    front
+}
+
+fn first_wide(numbers: &[i32]) -> usize
+    ensures { λ r. ⌜ Seeks (Wide (now (numbers .entry))) (length (now (numbers .entry))) r ⌝ }
+{
+    let mut j = 0;
+    while j < numbers.len() {
+        if !fits(numbers[j]) {
+            return j;
+        }
+        j += 1;
+    }
+    j
+}
+
+// Any numbers of two bytes, for whoever lays them out.
+pub fn write_words(numbers: &[i32], bytes: &mut [u8]) -> Checked
+    ensures { λ r. ⌜ Writes (wordsAsked (now (bytes .entry)) (now (numbers .entry))) (words (now (numbers .entry))) (now (bytes .entry)) (now (bytes .exit)) r ⌝ }
+{
+    let size = bytes.len();
+    if size % 2 != 0 {
+        return Checked::Refused(Refusal::Length);
+    }
+    if size / 2 != numbers.len() {
+        return Checked::Refused(Refusal::Length);
+    }
+    let wide = first_wide(numbers);
+    if wide < numbers.len() {
+        return Checked::Refused(Refusal::Reach(2 * wide));
+    }
+    lay(numbers, bytes);
+    Checked::Good
 }

@@ -9,6 +9,7 @@ mod sums;
 mod word;
 
 pub use fill::write_bytes;
+pub use fill::write_words;
 pub use header::read_header;
 pub use header::write_header;
 use piece::Band;

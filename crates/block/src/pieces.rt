@@ -1,8 +1,7 @@
 // A piece block.
 use crate::PieceRead;
-use crate::fill::front_of;
-use crate::fill::number_in;
-use crate::fill::put;
+use crate::fill::finish;
+use crate::fill::lay;
 use crate::scan::band_at;
 use crate::scan::check_unnamed;
 use crate::scan::corners_at;
@@ -12,18 +11,16 @@ use piece::check_piece;
 use refusal::Checked;
 use refusal::Refusal;
 ghost use mathlib.Core.Path.{_≡_};
-ghost use mathlib.Core.List.{_++_};
-ghost use Prim.Native.Nat.{_≤_};
-ghost use lib.IntN.{pos};
-ghost use lib.ListN.{length, getD};
+ghost use mathlib.Core.List.{_∷_, _++_};
+ghost use Prim.Native.Nat.{_+_, _*_};
+ghost use lib.ListN.{length, take};
 ghost use Rattle.rules.specs.Ring.{ring};
 ghost use Rattle.rules.specs.Refusal.{Passes};
 ghost use Rattle.rules.specs.Good.{pieceChecks};
 ghost use Rattle.refusal.specs.Said.{Finds};
 ghost use Rattle.piece.specs.Numbers.{pieceOf};
-ghost use Rattle.block.specs.Layout.{pieceNumbers, pieceBlock};
+ghost use Rattle.block.specs.Layout.{words, pieceNumbers, pieceBlock};
 ghost use Rattle.block.specs.Reading.{blockChecks, pieceBytes, pieceAsked, PieceSays, Holds, nothing, Writes};
-ghost use Rattle.block.specs.Scan.{Front, PieceNumbers};
 
 // The bytes of a piece block that are no numbers: kind, corner count, unnamed bytes.
 fn check_piece_bytes(block: &[u8]) -> Checked
@@ -100,47 +97,17 @@ pub fn read_piece(block: &[u8]) -> PieceRead
     }
 }
 
-fn piece_number(band: Band, corners: &[i32], j: usize) -> i32
-    ensures { λ r. ⌜ r ≡ getD (pieceNumbers (pieceOf band (now (corners .entry)))) j (pos 0) ⌝ }
+// What stands before the zeros of a piece block.
+fn lay_piece(band: Band, corners: &[i32], block: &mut [u8])
+    requires { ⌜ Passes (pieceChecks (pieceOf band (now corners))) × (length (now block) ≡ 512) ⌝ }
+    ensures { λ _. ⌜ take (12 + 2 * length (now (corners .entry))) (now (block .exit)) ≡ 1 ∷ ring (now (corners .entry)) .size ∷ words (pieceNumbers (pieceOf band (now (corners .entry)))) ⌝ }
 {
-    if j == 0 {
-        return band.bottom;
-    }
-    if j == 1 {
-        return band.top;
-    }
-    if j == 2 {
-        return band.vx;
-    }
-    if j == 3 {
-        return band.vy;
-    }
-    if j == 4 {
-        return band.vz;
-    }
-    number_in(corners, j - 5)
-}
-
-fn piece_numbers(band: Band, corners: &[i32]) -> [i32; 133]
-    requires { ⌜ length (now corners) ≤ 128 ⌝ }
-    ensures { λ r. ⌜ PieceNumbers (pieceOf band (now (corners .entry))) r ⌝ }
-{
-    let mut numbers = [0i32; 133];
-    let mut j = 0;
-    while j < 133 {
-        numbers[j] = piece_number(band, corners, j);
-        j += 1;
-    }
-    numbers
-}
-
-fn piece_front(band: Band, corners: &[i32]) -> [u8; 268]
-    requires { ⌜ Passes (pieceChecks (pieceOf band (now corners))) ⌝ }
-    ensures { λ r. ⌜ Front 1 (ring (now (corners .entry)) .size) (pieceNumbers (pieceOf band (now (corners .entry)))) r ⌝ }
-{
-    let numbers = piece_numbers(band, corners);
-    let count = (corners.len() / 2) as u8;
-    front_of(1, count, &numbers)
+    let numbers = [band.bottom, band.top, band.vx, band.vy, band.vz];
+    let end = 12 + 2 * corners.len();
+    block[0] = 1;
+    block[1] = (corners.len() / 2) as u8;
+    lay(&numbers, &mut block[2..12]);
+    lay(corners, &mut block[12..end]);
 }
 
 pub fn write_piece(band: Band, corners: &[i32], block: &mut [u8]) -> Checked
@@ -152,8 +119,8 @@ pub fn write_piece(band: Band, corners: &[i32], block: &mut [u8]) -> Checked
     match check_piece(band, corners) {
         Checked::Refused(x) => Checked::Refused(x),
         Checked::Good => {
-            let front = piece_front(band, corners);
-            put(&front, block);
+            lay_piece(band, corners, block);
+            finish(block, 12 + 2 * corners.len());
             Checked::Good
         }
     }

@@ -1,7 +1,7 @@
 // A run block.
 use crate::RunRead;
-use crate::fill::front_of;
-use crate::fill::put;
+use crate::fill::finish;
+use crate::fill::lay;
 use crate::scan::check_unnamed;
 use crate::scan::run_at;
 use crate::sums::check_block;
@@ -10,15 +10,14 @@ use piece::check_run;
 use refusal::Checked;
 use refusal::Refusal;
 ghost use mathlib.Core.Path.{_≡_};
-ghost use mathlib.Core.List.{_++_};
-ghost use lib.ListN.{length};
+ghost use mathlib.Core.List.{_∷_, _++_};
+ghost use lib.ListN.{length, take};
 ghost use Rattle.rules.specs.Refusal.{Passes};
 ghost use Rattle.rules.specs.Good.{runChecks};
 ghost use Rattle.refusal.specs.Said.{Finds};
 ghost use Rattle.piece.specs.Numbers.{runOf};
-ghost use Rattle.block.specs.Layout.{runNumbers, runBlock};
+ghost use Rattle.block.specs.Layout.{runBody, runBlock};
 ghost use Rattle.block.specs.Reading.{blockChecks, runBytes, runAsked, RunSays, Writes};
-ghost use Rattle.block.specs.Scan.{Front};
 
 // The bytes of a run block that are no numbers, by rising offset.
 fn check_run_bytes(block: &[u8]) -> Checked
@@ -60,9 +59,10 @@ pub fn read_run(block: &[u8]) -> RunRead
     }
 }
 
-fn run_front(run: Run) -> [u8; 268]
-    requires { ⌜ Passes (runChecks (runOf run)) ⌝ }
-    ensures { λ r. ⌜ Front 2 0 (runNumbers (runOf run)) r ⌝ }
+// What stands before the zeros of a run block.
+fn lay_run(run: Run, block: &mut [u8])
+    requires { ⌜ Passes (runChecks (runOf run)) × (length (now block) ≡ 512) ⌝ }
+    ensures { λ _. ⌜ take 16 (now (block .exit)) ≡ 2 ∷ 0 ∷ runBody (runOf run) ⌝ }
 {
     let numbers = [
         run.x,
@@ -73,7 +73,9 @@ fn run_front(run: Run) -> [u8; 268]
         run.vz,
         run.ticks as i32,
     ];
-    front_of(2, 0, &numbers)
+    block[0] = 2;
+    block[1] = 0;
+    lay(&numbers, &mut block[2..16]);
 }
 
 pub fn write_run(run: Run, block: &mut [u8]) -> Checked
@@ -85,8 +87,8 @@ pub fn write_run(run: Run, block: &mut [u8]) -> Checked
     match check_run(run) {
         Checked::Refused(x) => Checked::Refused(x),
         Checked::Good => {
-            let front = run_front(run);
-            put(&front, block);
+            lay_run(run, block);
+            finish(block, 16);
             Checked::Good
         }
     }

@@ -9,12 +9,29 @@ ghost use mathlib.Core.List.{[], _∷_};
 ghost use Prim.Native.Nat.{_+_, _*_, _≤_, _<_};
 ghost use lib.ListN.{length};
 ghost use Rattle.refusal.specs.Said.{Finds};
+ghost use Rattle.piece.specs.Decide.{Decides};
 ghost use Rattle.block.specs.Layout.{byte};
 ghost use Rattle.block.specs.Word.{Spelt};
 ghost use Rattle.block.specs.Reading.{unnamedCheck};
-ghost use Rattle.block.specs.Scan.{FirstByte, RunAt, BandAt, CornersAt};
+ghost use Rattle.block.specs.Scan.{Clean, FirstByte, RunAt, BandAt, CornersAt};
 
-pub(crate) fn first_byte(block: &[u8], from: usize) -> usize
+// Whether the bytes from here to 509 are zero. No byte ends the loop early, so that it can go by many bytes at a time.
+fn clean(block: &[u8], from: usize) -> bool
+    requires { ⌜ (from ≤ 510) × (length (now block) ≡ 512) ⌝ }
+    ensures { λ r. ⌜ Decides (Clean (now (block .entry)) from 510) r ⌝ }
+{
+    let mut other: u8 = 0;
+    let mut i = from;
+    while i < 510 {
+        if block[i] != 0 {
+            other = 1;
+        }
+        i += 1;
+    }
+    other == 0
+}
+
+fn first_byte(block: &[u8], from: usize) -> usize
     requires { ⌜ (from ≤ 510) × (length (now block) ≡ 512) ⌝ }
     ensures { λ r. ⌜ FirstByte (now (block .entry)) from r ⌝ }
 {
@@ -32,12 +49,10 @@ pub(crate) fn check_unnamed(block: &[u8], from: usize) -> Checked
     requires { ⌜ (from ≤ 510) × (length (now block) ≡ 512) ⌝ }
     ensures { λ r. ⌜ Finds (unnamedCheck (now (block .entry)) from ∷ []) r ⌝ }
 {
-    let at = first_byte(block, from);
-    if at < 510 {
-        Checked::Refused(Refusal::Kind(at))
-    } else {
-        Checked::Good
+    if clean(block, from) {
+        return Checked::Good;
     }
+    Checked::Refused(Refusal::Kind(first_byte(block, from)))
 }
 
 pub(crate) fn number_at(block: &[u8], at: usize) -> i32

@@ -13,7 +13,8 @@ pub(crate) struct Sums {
     pub weighed: u32,
 }
 
-// The two sums, each with one remainder at its end: the largest are 130,050 and 33,227,775.
+// The two sums, each with one remainder at its end. Byte 255 + i stands beside byte i, since modulo 255 both weigh 255 - i:
+// half as many turns, and the largest sums are 130,050 and 33,162,750.
 pub(crate) fn sums_of(block: &[u8]) -> Sums
     requires { ⌜ 510 ≤ length (now block) ⌝ }
     ensures { λ r. ⌜ (r .plain ≡ plainSum (now (block .entry))) × (r .weighed ≡ weighedSum (now (block .entry))) ⌝ }
@@ -21,10 +22,10 @@ pub(crate) fn sums_of(block: &[u8]) -> Sums
     let mut plain: u32 = 0;
     let mut weighed: u32 = 0;
     let mut i: usize = 0;
-    while i < 510 {
-        let byte = block[i] as u32;
-        plain += byte;
-        weighed += (510 - i) as u32 * byte;
+    while i < 255 {
+        let both = block[i] as u32 + block[255 + i] as u32;
+        plain += both;
+        weighed += (255 - i) as u32 * both;
         i += 1;
     }
     Sums {

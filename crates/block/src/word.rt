@@ -1,8 +1,17 @@
 // Numbers of two bytes, low byte first.
 ghost use mathlib.Core.Path.{_≡_};
 ghost use Prim.Native.Nat.{_+_, _*_, _/_, _%_, _<_};
+ghost use Rattle.piece.specs.Decide.{Decides};
 ghost use Rattle.block.specs.Layout.{word};
-ghost use Rattle.block.specs.Word.{Word, Spelt};
+ghost use Rattle.block.specs.Reading.{Word};
+ghost use Rattle.block.specs.Word.{Spelt};
+
+// Whether two bytes hold a number, signed or not.
+pub(crate) fn fits(z: i32) -> bool
+    ensures { λ r. ⌜ Decides (Word z) r ⌝ }
+{
+    -32768 <= z && z <= 65535
+}
 
 pub(crate) fn bits_of(z: i32) -> u32
     requires { ⌜ Word z ⌝ }

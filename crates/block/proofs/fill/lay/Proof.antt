@@ -1,64 +1,77 @@
--- `block::fill::lay` meets its contract. Assumes nothing.
-use mathlib.Core.Path.{_≡_, ap, _∙_}
-use Prim.Native.Nat.{_/_, _%_}
+-- `block::fill::lay` meets its contract. The loop's invariant: the bytes of the numbers passed are right. Assumes nothing.
+use mathlib.Core.Path.{_≡_, sym, ap, subst, _∙_}
+use mathlib.Core.List.{List}
+use Prim.Native.Nat.{ℕ, _+_, _*_, _-_, _/_, _%_, _≤_, _<_}
 use native.Mathlib.Omega.{arith}
 use borrow.Author.Needs.{needs}
-use lib.ListN.{length-set}
+use lib.ListN.{length, set, length-set}
+use lib.Seq.{ext-getD}
 use mir.Syntax.{w32}
-use Rattle.whole.proofs.Range.{field}
-use Rattle.block.specs.Layout.{word}
-use Rattle.block.proofs.Words.{word-below}
+use Rattle.whole.proofs.Range.{elem}
+use Rattle.block.specs.Layout.{byte, word, words}
+use Rattle.block.proofs.Words.{words-length}
+use Rattle.block.proofs.Pairs.{paired}
 use Rattle.block.proofs.fill.lay.Statement.{statement}
 use Rattle.block.proofs.fill.lay.Tie as tie
 
-bits-of-requires : tie.Need-bits-of-requires
-bits-of-requires c κs = search needs
+abbrev Inv-loop : tie.InvT-loop
+Inv-loop numbers bytes₀ j₀ bytes j = (length bytes ≡ 2 * length numbers) × (j ≤ length numbers) × ((k : ℕ) → k < 2 * j → byte bytes k ≡ byte (words numbers) k)
 
-low-requires : tie.Need-low-requires
-low-requires c κs = search needs
+abbrev μ-loop : tie.MeasureT-loop
+μ-loop numbers bytes₀ j₀ bytes j = length numbers - j
 
-mul-front : tie.Need-mul-front
-mul-front c = search needs
+loop-holds : tie.Need-loop-holds Inv-loop μ-loop
+loop-holds c = (search needs, omega arith, λ k h. absurd (omega arith))
 
-add-front : tie.Need-add-front
-add-front c = search needs
+mul-pair : tie.Need-mul-pair Inv-loop μ-loop
+mul-pair c = search needs
 
-slice-write-front : tie.Need-slice-write-front
-slice-write-front c = search needs
+shared-slice-copy-out-pair : tie.Need-shared-slice-copy-out-pair Inv-loop μ-loop
+shared-slice-copy-out-pair c = search needs
 
-high-requires : tie.Need-high-requires
-high-requires c κs = let b = c .before .before .before in omega (arith, c .before .bits-of .ensures ∙ ap word (field w32 (b .args .z) (b .fits .z .sfits)), word-below _ (b .pre .1 .1))
+pair-requires : tie.Need-pair-requires Inv-loop μ-loop
+pair-requires c κs =
+    let v = c .before .before .before .loop in
+    let b = c .before .before .before .before .before in
+    (omega arith, rw (elem w32 (b .args .numbers .now) (v .j) (c .pair-arg2 .given)) (b .pre .1 (v .j) (omega arith)))
 
-mul-front-2 : tie.Need-mul-front-2
-mul-front-2 c = search needs
+add-j : tie.Need-add-j Inv-loop μ-loop
+add-j c = omega arith
 
-add-front-2 : tie.Need-add-front-2
-add-front-2 c = search needs
+loop-less : tie.Need-loop-less Inv-loop μ-loop
+loop-less c = omega arith
 
-slice-write-front-2 : tie.Need-slice-write-front-2
-slice-write-front-2 c = simp length-set (omega arith)
+loop-again : tie.Need-loop-again Inv-loop μ-loop
+loop-again c =
+    let v = c .before .before .before .before .before .before .loop in
+    let a = c .before .before .before .before .before .before .before .before .args in
+    let e = c .before .before .pair .ensures ∙ ap (λ z. set (set (v .bytes) (2 * v .j) (word z % 256)) (2 * v .j + 1) (word z / 256)) (elem w32 (a .numbers .now) (v .j) (c .before .before .before .pair-arg2 .given)) in (
+      ap length e ∙ simp length-set (v .inv .0),
+      omega arith,
+      subst (λ (l : List ℕ). (k : ℕ) → k < 2 * (v .j + 1) → byte l k ≡ byte (words (a .numbers .now)) k) (sym e) (paired (a .numbers .now) (v .bytes) (v .j) (omega arith) (v .inv .2)),
+    )
 
-same-length : tie.Need-same-length
-same-length c = simp length-set
+same-length : tie.Need-same-length Inv-loop μ-loop
+same-length c = omega arith
 
-returns : tie.Need-returns
+returns : tie.Need-returns Inv-loop μ-loop
 returns c =
-    let b = c .before .before .before .before in
-    let e = c .before .before .bits-of .ensures ∙ ap word (field w32 (b .args .z) (b .fits .z .sfits)) in
-    rw (c .before .low .ensures ∙ ap (λ n. n % 256) e, c .high .ensures ∙ ap (λ n. n / 256) e)
+    let v = c .before .loop in
+    let a = c .before .before .before .args in
+    ext-getD 0 (v .bytes) (words (a .numbers .now)) (v .inv .0 ∙ sym (words-length (a .numbers .now))) (λ k h. v .inv .2 k (omega arith))
 
 pub lay-spec : {M : Type 1} → statement M
 lay-spec =
     tie.close
     (tie.spec
-    bits-of-requires
-    low-requires
-    mul-front
-    add-front
-    slice-write-front
-    high-requires
-    mul-front-2
-    add-front-2
-    slice-write-front-2
+    Inv-loop
+    μ-loop
+    loop-holds
+    mul-pair
+    shared-slice-copy-out-pair
+    pair-requires
+    add-j
+    loop-less
+    loop-again
     same-length
     returns)

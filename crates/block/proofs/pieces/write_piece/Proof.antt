@@ -1,17 +1,15 @@
 -- `block::pieces::write_piece` meets its contract. Assumes nothing.
-use mathlib.Core.Path.{refl, sym, _∙_}
+use mathlib.Core.Path.{refl, sym, ap, _∙_}
 use mathlib.Core.Logic.{inl, inr}
 use native.Mathlib.Omega.{arith}
+use borrow.Author.Needs.{needs}
 use denote.Ref.{now}
-use Rattle.rules.specs.Ring.{ring}
 use Rattle.rules.specs.Good.{pieceChecks}
 use Rattle.piece.specs.Numbers.{pieceOf}
-use Rattle.block.specs.Layout.{pieceNumbers}
+use Rattle.block.specs.Layout.{blockOf}
 use Rattle.block.specs.Reading.{pieceAsked}
 use Rattle.block.proofs.Found.{found-good, found-bad}
-use Rattle.block.proofs.Laid.{front-block}
 use Rattle.block.proofs.PieceLaws.{sized-most, good-sized, piece-block}
-use borrow.Author.Needs.{needs}
 use Rattle.block.proofs.pieces.write_piece.Statement.{statement}
 use Rattle.block.proofs.pieces.write_piece.Tie as tie
 
@@ -28,20 +26,24 @@ enum-known-x c = search needs
 enum-told : tie.Need-enum-told
 enum-told c = search needs
 
-piece-front-requires : tie.Need-piece-front-requires
-piece-front-requires c κs = let a = c .before .before .before .before .before .args in found-good (pieceChecks (pieceOf (a .band) (now (a .corners)))) _ (c .before .before .check-piece .ensures) (c .enum-told .given .1)
+lay-piece-requires : tie.Need-lay-piece-requires
+lay-piece-requires c κs = (let a = c .before .before .before .before .before .before .args in found-good (pieceChecks (pieceOf (a .band) (now (a .corners)))) _ (c .before .before .before .check-piece .ensures) (c .before .enum-told .given .1), c .before .before .before .before .if1 .left)
 
-slice-aggregate-put : tie.Need-slice-aggregate-put
-slice-aggregate-put c = search needs
+mul-finish : tie.Need-mul-finish
+mul-finish c = search needs
 
-put-requires : tie.Need-put-requires
-put-requires c κs = search needs
+add-finish : tie.Need-add-finish
+add-finish c = search needs
+
+finish-requires : tie.Need-finish-requires
+finish-requires c κs =
+    let a = c .before .before .before .before .before .before .before .before .before .before .args in let k = pieceOf (a .band) (now (a .corners)) in
+    let p = found-good (pieceChecks k) _ (c .before .before .before .before .before .before .before .check-piece .ensures) (c .before .before .before .before .before .enum-told .given .1) in
+    (omega (arith, sized-most (k .corners) (good-sized k p)), c .before .before .before .lay-piece .kept .1 .1 .0 ∙ c .before .before .before .before .before .before .before .before .if1 .left)
 
 returns-2 : tie.Need-returns-2
 unfolding pieceAsked
-returns-2 c =
-    let a = c .before .before .before .before .before .before .args in
-    (inr (c .before .before .before .before .if1 .left, found-bad (pieceChecks (pieceOf (a .band) (now (a .corners)))) _ _ (c .before .before .before .check-piece .ensures) (c .before .x .given .1)), refl)
+returns-2 c = let a = c .before .before .before .before .before .before .args in (inr (c .before .before .before .before .if1 .left, found-bad (pieceChecks (pieceOf (a .band) (now (a .corners)))) _ _ (c .before .before .before .check-piece .ensures) (c .before .x .given .1)), refl)
 
 same-length : tie.Need-same-length
 same-length c = search needs
@@ -49,13 +51,9 @@ same-length c = search needs
 returns-3 : tie.Need-returns-3
 unfolding pieceAsked
 returns-3 c =
-    let a = c .before .before .before .before .before .before .before .before .before .before .before .args in let k = pieceOf (a .band) (now (a .corners)) in
-    let p = found-good (pieceChecks k) _ (c .before .before .before .before .before .before .before .before .check-piece .ensures) (c .before .before .before .before .before .before .enum-told .given .1) in
-    let h = sized-most (k .corners) (good-sized k p) in (
-      (c .before .before .before .before .before .before .before .before .before .if1 .left, p),
-      c .before .before .put .ensures
-          ∙ (front-block 1 (ring (k .corners) .size) (pieceNumbers k) _ (omega arith) (c .before .before .before .before .before .piece-front .ensures) ∙ sym (piece-block k h)),
-    )
+    let a = c .before .before .before .before .before .before .before .before .before .before .before .before .before .args in let k = pieceOf (a .band) (now (a .corners)) in
+    let p = found-good (pieceChecks k) _ (c .before .before .before .before .before .before .before .before .before .before .check-piece .ensures) (c .before .before .before .before .before .before .before .before .enum-told .given .1) in
+    ((c .before .before .before .before .before .before .before .before .before .before .before .if1 .left, p), c .before .before .finish .ensures ∙ ap blockOf (c .before .before .before .before .before .before .lay-piece .ensures) ∙ sym (piece-block k (sized-most (k .corners) (good-sized k p))))
 
 pub write-piece-spec : {M : Type 1} → statement M
 write-piece-spec =
@@ -65,9 +63,10 @@ write-piece-spec =
     check-piece-requires
     enum-known-x
     enum-told
-    piece-front-requires
-    slice-aggregate-put
-    put-requires
+    lay-piece-requires
+    mul-finish
+    add-finish
+    finish-requires
     returns-2
     same-length
     returns-3)

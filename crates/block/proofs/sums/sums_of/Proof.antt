@@ -1,63 +1,100 @@
--- `block::sums::sums_of` meets its contract. The loop's invariant: both sums over the bytes passed, each at most what so many bytes can come to.
+-- `block::sums::sums_of` meets its contract. The loop's invariant: both sums over the pairs of bytes passed, each at most what so many can come to.
 -- Assumes nothing.
-use mathlib.Core.Path.{_≡_, refl, ap}
+use mathlib.Core.Path.{_≡_, refl, sym, ap, _∙_}
 use mathlib.Core.List.{List}
-use Prim.Native.Nat.{ℕ, _+_, _*_, _-_, _%_, _≤_, _<_}
-use native.Mathlib.Nat.{mul-le-mul}
+use Prim.Native.Nat.{ℕ, zero, suc, _+_, _*_, _-_, _%_, _≤_, _<_}
+use native.Mathlib.Nat.{mul-le-mul, add-mul, mul-add}
 use native.Mathlib.Omega.{arith}
 use mir.Syntax.{w8}
 use mir.Val.{Fits}
 use Rattle.block.specs.Layout.{byte, sum, plainSum, weighedSum}
-use Rattle.block.proofs.Bytes.{sum-more}
+use Rattle.block.proofs.Bytes.{sum-more, sum-split}
 use Rattle.block.proofs.sums.sums_of.Statement.{statement}
 use Rattle.block.proofs.sums.sums_of.Tie as tie
 
+abbrev both : List ℕ → ℕ → ℕ
+both l j = byte l j + byte l (255 + j)
+
 record Upto (l : List ℕ) (i plain weighed : ℕ) : Type 0 where
-  below : i ≤ 510
-  plain-is : plain ≡ sum (λ j. byte l j) i
-  weighed-is : weighed ≡ sum (λ j. (510 - j) * byte l j) i
-  plain-most : plain ≤ 255 * i
+  below : i ≤ 255
+  plain-is : plain ≡ sum (λ j. both l j) i
+  weighed-is : weighed ≡ sum (λ j. (255 - j) * both l j) i
+  plain-most : plain ≤ 510 * i
   weighed-most : weighed ≤ 130050 * i
 
-weight-most : (i b : ℕ) → Fits w8 b → (510 - i) * b ≤ 130050
-weight-most i b h = let l : 510 - i ≤ 510 = omega arith in let k : b ≤ 255 = omega arith in mul-le-mul l k
+weight-most : (i a b : ℕ) → Fits w8 a → Fits w8 b → (255 - i) * (a + b) ≤ 130050
+weight-most i a b h k = let l : 255 - i ≤ 255 = omega arith in let m : a + b ≤ 510 = omega arith in mul-le-mul l m
 
 start : (l : List ℕ) → Upto l 0 0 0
 unfolding sum
 start l = record { below = omega arith; plain-is = refl; weighed-is = refl; plain-most = omega arith; weighed-most = omega arith }
 
-turn : (l : List ℕ) (i plain weighed : ℕ) → i < 510 → Fits w8 (byte l i) → Upto l i plain weighed → Upto l (i + 1) (plain + byte l i) (weighed + (510 - i) * byte l i)
-turn l i plain weighed h b u = record {
+turn : (l : List ℕ) (i plain weighed : ℕ) → i < 255 → Fits w8 (byte l i) → Fits w8 (byte l (255 + i)) → Upto l i plain weighed → Upto l (i + 1) (plain + both l i) (weighed + (255 - i) * both l i)
+turn l i plain weighed h a b u = record {
   below = omega arith;
-  plain-is = rw sum-more (ap (λ n. n + byte l i) (u .plain-is));
-  weighed-is = rw sum-more (ap (λ n. n + (510 - i) * byte l i) (u .weighed-is));
+  plain-is = rw sum-more (ap (λ n. n + both l i) (u .plain-is));
+  weighed-is = rw sum-more (ap (λ n. n + (255 - i) * both l i) (u .weighed-is));
   plain-most = let m = u .plain-most in omega arith;
-  weighed-most = let m = u .weighed-most in omega (arith, weight-most i (byte l i) b);
+  weighed-most = let m = u .weighed-most in omega (arith, weight-most i (byte l i) (byte l (255 + i)) a b);
 }
 
-ended : (l : List ℕ) (i plain weighed : ℕ) → 510 ≤ i → Upto l i plain weighed → (plain % 255 ≡ plainSum l) × (weighed % 255 ≡ weighedSum l)
+-- ---- pairs and single bytes
+paired : (l : List ℕ) (n : ℕ) → sum (λ j. both l j) n ≡ sum (λ j. byte l j) n + sum (λ j. byte l (255 + j)) n
+unfolding sum
+paired l zero = refl
+paired l (suc n) = omega (arith, paired l n)
+
+-- byte j weighs 255 more than byte 255 + j
+weighs : (l : List ℕ) (n : ℕ) → n ≤ 255 → sum (λ j. (510 - j) * byte l j) n + sum (λ j. (510 - (255 + j)) * byte l (255 + j)) n ≡ sum (λ j. (255 - j) * both l j) n + 255 * sum (λ j. byte l j) n
+unfolding sum
+weighs l zero h = refl
+weighs l (suc n) h =
+    let a : 510 - n ≡ 255 + (255 - n) = omega arith in
+    let b : 510 - (255 + n) ≡ 255 - n = omega arith in
+    let p = ap (λ m. m * byte l n) a ∙ add-mul 255 (255 - n) (byte l n) in
+    let q = ap (λ m. m * byte l (255 + n)) b in
+    let r = mul-add (255 - n) (byte l n) (byte l (255 + n)) in
+    omega (arith, weighs l n (omega arith), p, q, r)
+
+ended : (l : List ℕ) (i plain weighed : ℕ) → 255 ≤ i → Upto l i plain weighed → (plain % 255 ≡ plainSum l) × (weighed % 255 ≡ weighedSum l)
 unfolding plainSum weighedSum
 ended l i plain weighed h u =
-    let b = u .below in let e : i ≡ 510 = omega arith in
-    (ap (λ n. n % 255) (rw e at (u .plain-is)), ap (λ n. n % 255) (rw e at (u .weighed-is)))
+    let b = u .below in let e : i ≡ 255 = omega arith in
+    let p = rw e at (u .plain-is) in
+    let w = rw e at (u .weighed-is) in (
+      ap (λ n. n % 255) (p ∙ paired l 255 ∙ sym (sum-split (λ j. byte l j) 255 255)),
+      omega (arith, w, weighs l 255 (omega arith), sum-split (λ j. (510 - j) * byte l j) 255 255),
+    )
 
 abbrev Inv-loop : tie.InvT-loop
 Inv-loop block plain₀ weighed₀ i₀ plain weighed i = Upto block i plain weighed
 
 abbrev μ-loop : tie.MeasureT-loop
-μ-loop block plain₀ weighed₀ i₀ plain weighed i = 510 - i
+μ-loop block plain₀ weighed₀ i₀ plain weighed i = 255 - i
 
 loop-holds : tie.Need-loop-holds Inv-loop μ-loop
 loop-holds c = start _
 
-shared-slice-read-byte : tie.Need-shared-slice-read-byte Inv-loop μ-loop
-shared-slice-read-byte c = omega arith
+shared-slice-read-both : tie.Need-shared-slice-read-both Inv-loop μ-loop
+shared-slice-read-both c = omega arith
 
-cast-byte : tie.Need-cast-byte Inv-loop μ-loop
-cast-byte c = omega (arith, c .shared-slice-known .given (c .before .before .loop .i))
+cast-both : tie.Need-cast-both Inv-loop μ-loop
+cast-both c = omega (arith, c .shared-slice-known .given (c .before .before .loop .i))
+
+add-both : tie.Need-add-both Inv-loop μ-loop
+add-both c = omega arith
+
+shared-slice-read-both-2 : tie.Need-shared-slice-read-both-2 Inv-loop μ-loop
+shared-slice-read-both-2 c = omega arith
+
+cast-both-2 : tie.Need-cast-both-2 Inv-loop μ-loop
+cast-both-2 c = let v = c .before .before .before .loop in omega (arith, c .shared-slice-known2 .given (255 + v .i))
+
+add-both-2 : tie.Need-add-both-2 Inv-loop μ-loop
+add-both-2 c = let v = c .before .before .before .loop in omega (arith, c .shared-slice-known2 .given (v .i), c .shared-slice-known2 .given (255 + v .i))
 
 add-plain : tie.Need-add-plain Inv-loop μ-loop
-add-plain c = omega (arith, c .shared-slice-known .given (c .before .before .loop .i), c .before .before .loop .inv)
+add-plain c = let v = c .before .before .before .loop in omega (arith, c .shared-slice-known2 .given (v .i), c .shared-slice-known2 .given (255 + v .i), v .inv)
 
 sub-weighed : tie.Need-sub-weighed Inv-loop μ-loop
 sub-weighed c = omega arith
@@ -67,13 +104,13 @@ cast-weighed c = omega arith
 
 mul-weighed : tie.Need-mul-weighed Inv-loop μ-loop
 mul-weighed c =
-    let l = c .before .before .before .args .block .now in let i = c .before .before .loop .i in
-    omega (arith, weight-most i (byte l i) (c .shared-slice-known .given i))
+    let l = c .before .before .before .before .args .block .now in let i = c .before .before .before .loop .i in
+    omega (arith, weight-most i (byte l i) (byte l (255 + i)) (c .shared-slice-known2 .given i) (c .shared-slice-known2 .given (255 + i)))
 
 add-weighed : tie.Need-add-weighed Inv-loop μ-loop
 add-weighed c =
-    let l = c .before .before .before .args .block .now in let i = c .before .before .loop .i in
-    omega (arith, weight-most i (byte l i) (c .shared-slice-known .given i), c .before .before .loop .inv)
+    let l = c .before .before .before .before .args .block .now in let i = c .before .before .before .loop .i in
+    omega (arith, weight-most i (byte l i) (byte l (255 + i)) (c .shared-slice-known2 .given i) (c .shared-slice-known2 .given (255 + i)), c .before .before .before .loop .inv)
 
 add-i : tie.Need-add-i Inv-loop μ-loop
 add-i c = omega arith
@@ -83,8 +120,8 @@ loop-less c = omega arith
 
 loop-again : tie.Need-loop-again Inv-loop μ-loop
 loop-again c =
-    let i = c .before .before .loop .i in
-    turn _ i _ _ (omega arith) (c .shared-slice-known .given i) (c .before .before .loop .inv)
+    let i = c .before .before .before .loop .i in
+    turn _ i _ _ (omega arith) (c .shared-slice-known2 .given i) (c .shared-slice-known2 .given (255 + i)) (c .before .before .before .loop .inv)
 
 returns : tie.Need-returns Inv-loop μ-loop
 returns c = ended _ _ _ _ (omega arith) (c .before .loop .inv)
@@ -96,8 +133,12 @@ sums-of-spec =
     Inv-loop
     μ-loop
     loop-holds
-    shared-slice-read-byte
-    cast-byte
+    shared-slice-read-both
+    cast-both
+    add-both
+    shared-slice-read-both-2
+    cast-both-2
+    add-both-2
     add-plain
     sub-weighed
     cast-weighed

@@ -1,0 +1,43 @@
+-- Bytes put into the middle of a list: what stands up to their end. Assumes nothing.
+use mathlib.Core.Path.{_≡_, refl, sym, ap, _∙_}
+use mathlib.Core.List.{List, [], _∷_, _++_, append-assoc}
+use Prim.Native.Nat.{ℕ, _+_, _*_, _-_, _≤_}
+use native.Mathlib.Omega.{arith}
+use lib.ListN.{length, set, take, drop, length-set, length-append, length-take, length-drop}
+use lib.Seq.{take-at}
+
+-- ys in the place of the n bytes from byte a on
+abbrev pub mid : ℕ → ℕ → List ℕ → List ℕ → List ℕ
+mid a n l ys = take a l ++ (ys ++ drop n (drop a l))
+
+module _ (l ys : List ℕ) (a n : ℕ) (h : a + n ≤ length l) (e : length ys ≡ n) where
+  pub mid-length : length (mid a n l ys) ≡ length l
+  mid-length = omega (arith, length-append (take a l) (ys ++ drop n (drop a l)), length-append ys (drop n (drop a l)), length-take a l, length-drop n (drop a l), length-drop a l)
+
+  pub mid-front : take (a + n) (mid a n l ys) ≡ take a l ++ ys
+  mid-front =
+      ap (take (a + n)) (sym (append-assoc (take a l) ys (drop n (drop a l))))
+      ∙ take-at (take a l ++ ys) (drop n (drop a l)) (a + n) (omega (arith, length-append (take a l) ys, length-take a l))
+
+-- the bytes of a part
+pub part-length : (l : List ℕ) (a n : ℕ) → a + n ≤ length l → length (take n (drop a l)) ≡ n
+part-length l a n h = omega (arith, length-take n (drop a l), length-drop a l)
+
+-- two first bytes, and then others
+two-first : (l : List ℕ) (x y : ℕ) → 2 ≤ length l → take 2 (set (set l 0 x) 1 y) ≡ x ∷ y ∷ []
+two-first [] x y h = absurd (omega arith)
+two-first (a ∷ []) x y h = absurd (omega arith)
+two-first (a ∷ b ∷ l) x y h = refl
+
+module _ (l ys : List ℕ) (x y n : ℕ) (h : 2 + n ≤ length l) (e : length ys ≡ n) where
+  abbrev start : List ℕ
+  start = set (set l 0 x) 1 y
+
+  long : length start ≡ length l
+  long = length-set (set l 0 x) 1 y ∙ length-set l 0 x
+
+  pub two-length : length (mid 2 n start ys) ≡ length l
+  two-length = mid-length start ys 2 n (omega (arith, long)) e ∙ long
+
+  pub two-then : take (2 + n) (mid 2 n start ys) ≡ x ∷ y ∷ ys
+  two-then = mid-front start ys 2 n (omega (arith, long)) e ∙ ap (λ (f : List ℕ). f ++ ys) (two-first l x y (omega arith))

@@ -1,0 +1,60 @@
+-- `block::fill::pair` meets its contract. Assumes nothing.
+use mathlib.Core.Path.{_≡_, ap, _∙_}
+use Prim.Native.Nat.{_/_, _%_}
+use native.Mathlib.Omega.{arith}
+use borrow.Author.Needs.{needs}
+use lib.ListN.{length-set}
+use mir.Syntax.{w32}
+use Rattle.whole.proofs.Range.{field}
+use Rattle.block.specs.Layout.{word}
+use Rattle.block.proofs.Words.{word-below}
+use Rattle.block.proofs.fill.pair.Statement.{statement}
+use Rattle.block.proofs.fill.pair.Tie as tie
+
+bits-of-requires : tie.Need-bits-of-requires
+bits-of-requires c κs = search needs
+
+low-requires : tie.Need-low-requires
+low-requires c κs = search needs
+
+mul-bytes : tie.Need-mul-bytes
+mul-bytes c = search needs
+
+slice-write-bytes : tie.Need-slice-write-bytes
+slice-write-bytes c = search needs
+
+high-requires : tie.Need-high-requires
+high-requires c κs = let b = c .before .before .before in omega (arith, c .before .bits-of .ensures ∙ ap word (field w32 (b .args .z) (b .fits .z .sfits)), word-below _ (b .pre .1))
+
+mul-bytes-2 : tie.Need-mul-bytes-2
+mul-bytes-2 c = search needs
+
+add-bytes : tie.Need-add-bytes
+add-bytes c = search needs
+
+slice-write-bytes-2 : tie.Need-slice-write-bytes-2
+slice-write-bytes-2 c = simp length-set (omega arith)
+
+same-length : tie.Need-same-length
+same-length c = simp length-set
+
+returns : tie.Need-returns
+returns c =
+    let b = c .before .before .before .before in
+    let e = c .before .before .bits-of .ensures ∙ ap word (field w32 (b .args .z) (b .fits .z .sfits)) in
+    rw (c .before .low .ensures ∙ ap (λ n. n % 256) e, c .high .ensures ∙ ap (λ n. n / 256) e)
+
+pub pair-spec : {M : Type 1} → statement M
+pair-spec =
+    tie.close
+    (tie.spec
+    bits-of-requires
+    low-requires
+    mul-bytes
+    slice-write-bytes
+    high-requires
+    mul-bytes-2
+    add-bytes
+    slice-write-bytes-2
+    same-length
+    returns)
