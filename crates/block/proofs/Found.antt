@@ -1,6 +1,8 @@
 -- What checks in a row find, and what a call's answer says of them. Assumes nothing.
 use mathlib.Core.Path.{_≡_, subst}
-use mathlib.Core.List.{List, _++_}
+use mathlib.Core.Logic.{⊎-elim}
+use mathlib.Core.List.{List, [], _∷_, _++_}
+use Rattle.rules.specs.Refusal as rules
 use Rattle.rules.specs.Refusal.{Check as Test, Passes, Fault}
 use Rattle.rules.proofs.Checks.{Sharp, AllSharp, never-both, one-fault, passes-append, fault-right}
 use Rattle.refusal.specs.Said.{said, Finds}
@@ -14,6 +16,10 @@ use Rattle.refusal.specs.declared.Checked.the-variants.{Good, Refused}
 pub finds-right : (cs ds : List Test) (r : Checked) → Passes cs → Finds ds r → Finds (cs ++ ds) r
 finds-right cs ds Good p f = passes-append cs ds p f
 finds-right cs ds (Refused x) p f = fault-right cs ds (said x) p f
+
+pub fault-past : (cs ds : List Test) → AllSharp cs → (x : rules.Refusal) → Passes cs → Fault (cs ++ ds) x → Fault ds x
+fault-past [] ds a x p f = f
+fault-past (c ∷ cs) ds a x p f = ⊎-elim (λ h. absurd (a .0 .never x (p .0) h)) (λ h. fault-past cs ds (a .1) x (p .1) (h .1)) f
 
 pub refused-one : (cs : List Test) → AllSharp cs → (x y : Refusal) → Fault cs (said x) → Fault cs (said y) → x ≡ y
 refused-one cs s x y f g = said-one x y (one-fault cs s (said x) (said y) f g)

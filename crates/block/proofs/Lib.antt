@@ -11,6 +11,7 @@ pub mod RoundTrip
 pub mod RunLaws
 pub mod Sharp
 pub mod Unique
+pub mod VerdictLaws
 pub mod Words
 pub mod Zero
 pub mod Pairs

@@ -1,6 +1,6 @@
 -- A piece and its block: what a block holds, and that the block of a good piece passes. Assumes nothing.
 use mathlib.Core.Path.{_≡_, refl, sym, ap, subst, _∙_}
-use mathlib.Core.Logic.{_⊎_, ⊎-elim}
+use mathlib.Core.Logic.{_⊎_, inl, ⊎-elim}
 use mathlib.Core.List.{List, [], _∷_, _++_}
 use Prim.Native.Nat.{ℕ, zero, suc, _+_, _*_, _-_, _≤_, _<_}
 use native.Mathlib.Omega.{arith}
@@ -14,10 +14,11 @@ use mir.Facts.{toZ-ofZ}
 use Rattle.whole.proofs.Order.{ℕ-or}
 use Rattle.rules.specs.Reach.{Corners, Piece}
 use Rattle.rules.specs.Ring.{ring}
+use Rattle.rules.specs.Refusal as rules
 use Rattle.rules.specs.Refusal.{Passes, Fault}
 use Rattle.rules.specs.Good.{Sized, PieceKnown, pieceChecks}
 use Rattle.rules.proofs.Reach.{piece-known}
-use Rattle.rules.proofs.Checks.{passes-append, passes-left, passes-right}
+use Rattle.rules.proofs.Checks.{passes-append, passes-left, passes-right, fault-left, fault-right}
 use Rattle.refusal.specs.Said.{said}
 use Rattle.refusal.specs.declared.Refusal.{Refusal}
 use Rattle.refusal.specs.declared.Checked.{Checked}
@@ -139,6 +140,23 @@ unfolding pieceBlockChecks
 piece-passes k p =
     passes-append (blockChecks (pieceBlock k) ++ pieceBytes (pieceBlock k)) (inside (PieceIn (pieceBlock k)) pieceChecks ∷ []) (piece-bytes k (good-sized k p))
     ((k, good-in k p, p), tt)
+
+-- a block that is the block of a good piece
+module _ (l : List ℕ) (k : Piece) (same : l ≡ pieceBlock k) (good : Passes (pieceChecks k)) where
+  pub block-in : PieceIn l k
+  block-in = subst (λ l. PieceIn l k) (sym same) (good-in k good)
+
+  pub block-passes : Passes (pieceBlockChecks l)
+  block-passes = subst (λ l. Passes (pieceBlockChecks l)) (sym same) (piece-passes k good)
+
+-- ---- the block of a piece that is refused
+pub bytes-fault : (l : List ℕ) (x : rules.Refusal) → Fault (blockChecks l ++ pieceBytes l) x → Fault (pieceBlockChecks l) x
+unfolding pieceBlockChecks
+bytes-fault l x f = fault-left (blockChecks l ++ pieceBytes l) (inside (PieceIn l) pieceChecks ∷ []) x f
+
+pub inside-fault : (l : List ℕ) (k : Piece) (x : rules.Refusal) → Passes (blockChecks l ++ pieceBytes l) → PieceIn l k → Fault (pieceChecks k) x → Fault (pieceBlockChecks l) x
+unfolding pieceBlockChecks
+inside-fault l k x p i f = fault-right (blockChecks l ++ pieceBytes l) (inside (PieceIn l) pieceChecks ∷ []) x p (inl (k, i, f))
 
 -- ---- what a block holds
 module _ (l : List ℕ) (b : Band) (a : List ℤ) (bytes : (i : ℕ) → Fits w8 (byte l i)) (p : Passes (blockChecks l ++ pieceBytes l)) (at : BandAt l b) (corners : CornersAt l (2 * byte l 1) a) where

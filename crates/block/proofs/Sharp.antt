@@ -7,6 +7,7 @@ use Rattle.rules.specs.Good.{runChecks, pieceChecks}
 use Rattle.rules.proofs.Checks.{AllSharp, sharp-demand, sharp-each, sharp-append}
 use Rattle.rules.proofs.Good.{sharp-run, sharp-piece}
 use Rattle.block.specs.Reading.{blockChecks, headerBytes, headerChecks, runBytes, pieceBytes, RunIn, PieceIn, inside, runBlockChecks, pieceBlockChecks, headerAsked, bytesAsked, wordsAsked, runAsked, pieceAsked}
+use Rattle.block.specs.Verdicts.{verdictInChecks}
 use Rattle.block.proofs.Found.{sharp-inside}
 use Rattle.block.proofs.RunLaws.{run-one}
 use Rattle.block.proofs.PieceLaws.{piece-one}
@@ -40,6 +41,10 @@ unfolding pieceBlockChecks
 sharp-piece-block l =
     sharp-append (blockChecks l ++ pieceBytes l) (inside (PieceIn l) pieceChecks ∷ []) (sharp-piece-bytes l)
     (sharp-inside (PieceIn l) pieceChecks (piece-one l) sharp-piece, tt)
+
+pub sharp-verdict-in : (r : Run) (l : List ℕ) → AllSharp (verdictInChecks r l)
+unfolding verdictInChecks
+sharp-verdict-in r l = sharp-append (runChecks r) (pieceBlockChecks l) (sharp-run r) (sharp-piece-block l)
 
 -- ---- writing
 pub sharp-bytes-asked : (l front : List ℕ) → AllSharp (bytesAsked l front)

@@ -3,27 +3,35 @@ use mathlib.Core.Path.{_≡_, refl, sym, ap, subst, _∙_}
 use mathlib.Core.List.{List}
 use Prim.Native.Nat.{ℕ}
 use lib.IntN.{ℤ}
+use Rattle.rules.specs.Reach as rules
 use Rattle.rules.specs.Reach.{Piece}
-use Rattle.rules.specs.Refusal.{Check, Passes}
-use Rattle.rules.proofs.Checks.{AllSharp, never-both}
+use Rattle.rules.specs.Refusal.{Check, Passes, Fault}
+use Rattle.rules.specs.Good.{runChecks, pieceChecks}
+use Rattle.rules.specs.Verdict.{Answer, clear, blocked, Verdict, verdictChecks}
+use Rattle.rules.proofs.Checks.{AllSharp, never-both, passes-append}
 use Rattle.refusal.specs.Said.{said, Finds}
 use Rattle.refusal.proofs.Unique.{finds-one}
+use Rattle.refusal.specs.declared.Refusal.{Refusal}
 use Rattle.refusal.specs.declared.Checked.{Checked}
 use Rattle.refusal.specs.declared.Checked.the-variants.{Good, Refused}
 use Rattle.piece.specs.declared.Run.{Run}
+use Rattle.piece.specs.declared.motion.Verdict as told
+use Rattle.piece.specs.declared.motion.Verdict.the-variants.{Clear, Mark, Refused as Unjudged}
 use Rattle.piece.specs.Numbers.{runOf}
+use Rattle.piece.proofs.Tells.{one-told}
 use Rattle.block.specs.declared.HeaderRead.{HeaderRead}
 use Rattle.block.specs.declared.HeaderRead.the-variants.{Count, NoHeader}
 use Rattle.block.specs.declared.RunRead.{RunRead}
 use Rattle.block.specs.declared.RunRead.the-variants.{Found, NoRun}
 use Rattle.block.specs.declared.PieceRead.{PieceRead}
 use Rattle.block.specs.Layout.{words, headerBlock, runBlock, pieceBlock, blockOf}
-use Rattle.block.specs.Reading.{blockChecks, headerChecks, runBlockChecks, pieceBlockChecks, headerAsked, bytesAsked, wordsAsked, runAsked, pieceAsked, HeaderSays, RunIn, RunSays, PieceIn, Holds, PieceGood, PieceFound, PieceSays, Writes}
+use Rattle.block.specs.Reading.{blockChecks, headerChecks, runBlockChecks, pieceBlockChecks, headerAsked, bytesAsked, wordsAsked, runAsked, pieceAsked, HeaderSays, RunIn, RunSays, Holds, PieceFound, PieceSays, Writes}
+use Rattle.block.specs.Verdicts.{VerdictOn, verdictInChecks, VerdictInSays}
 use Rattle.block.proofs.Found.{refused-one}
 use Rattle.block.proofs.Headers.{header-passes, header-one}
 use Rattle.block.proofs.RunLaws as runs
 use Rattle.block.proofs.PieceLaws as pieces
-use Rattle.block.proofs.Sharp.{sharp-block, sharp-header, sharp-run-block, sharp-piece-block, sharp-bytes-asked, sharp-words-asked, sharp-header-asked, sharp-run-asked, sharp-piece-asked}
+use Rattle.block.proofs.Sharp.{sharp-block, sharp-header, sharp-run-block, sharp-piece-block, sharp-verdict-in, sharp-bytes-asked, sharp-words-asked, sharp-header-asked, sharp-run-asked, sharp-piece-asked}
 
 -- ---- check_block
 pub check-block-one : (l : List ℕ) (r s : Checked) → Finds (blockChecks l) r → Finds (blockChecks l) s → r ≡ s
@@ -96,20 +104,41 @@ holds-one r s k e h g =
       count = (h .count ∙ sym (g .count)) i;
     }
 
-good-in : (l : List ℕ) (r : PieceRead) (f : PieceGood l r) → PieceIn l (f .piece)
-good-in l r f = subst (λ l. PieceIn l (f .piece)) (sym (f .same)) (pieces.good-in (f .piece) (f .good))
-
-good-passes : (l : List ℕ) (r : PieceRead) → PieceGood l r → Passes (pieceBlockChecks l)
-good-passes l r f = subst (λ l. Passes (pieceBlockChecks l)) (sym (f .same)) (pieces.piece-passes (f .piece) (f .good))
-
 found-one : (l : List ℕ) (r s : PieceRead) (x y : Checked) → r .found ≡ x → s .found ≡ y → PieceFound l r x → PieceFound l s y → r ≡ s
 found-one l r s Good Good d e f g =
-    let q = pieces.piece-one l (f .piece) (g .piece) (good-in l r f) (good-in l s g) in
+    let q = pieces.piece-one l (f .piece) (g .piece) (pieces.block-in l (f .piece) (f .same) (f .good)) (pieces.block-in l (g .piece) (g .same) (g .good)) in
     holds-one r s (g .piece) (d ∙ sym e) (subst (Holds r) q (f .holds)) (g .holds)
-found-one l r s Good (Refused y) d e f g = absurd (never-both (pieceBlockChecks l) (sharp-piece-block l) (said y) (good-passes l r f) (g .fault))
-found-one l r s (Refused x) Good d e f g = absurd (never-both (pieceBlockChecks l) (sharp-piece-block l) (said x) (good-passes l s g) (f .fault))
+found-one l r s Good (Refused y) d e f g = absurd (never-both (pieceBlockChecks l) (sharp-piece-block l) (said y) (pieces.block-passes l (f .piece) (f .same) (f .good)) (g .fault))
+found-one l r s (Refused x) Good d e f g = absurd (never-both (pieceBlockChecks l) (sharp-piece-block l) (said x) (pieces.block-passes l (g .piece) (g .same) (g .good)) (f .fault))
 found-one l r s (Refused x) (Refused y) d e f g =
     holds-one r s _ (d ∙ ap Refused (refused-one (pieceBlockChecks l) (sharp-piece-block l) x y (f .fault) (g .fault)) ∙ sym e) (f .holds) (g .holds)
 
 pub read-piece-one : (l : List ℕ) (r s : PieceRead) → PieceSays l r → PieceSays l s → r ≡ s
 read-piece-one l r s f g = found-one l r s (r .found) (s .found) refl refl f g
+
+-- ---- verdict_in
+module _ (r : rules.Run) (l : List ℕ) where
+  -- the answer of one, on the piece of the other
+  judged : (a b : Answer) → VerdictOn r l a → (g : VerdictOn r l b) → Passes (verdictChecks r (g .piece)) × Verdict r (g .piece) a
+  unfolding verdictChecks
+  judged a b f g =
+      let e = pieces.piece-one l (f .piece) (g .piece) (pieces.block-in l (f .piece) (f .same) (f .good)) (pieces.block-in l (g .piece) (g .same) (g .good)) in
+      (passes-append (runChecks r) (pieceChecks (g .piece)) (g .run) (g .good), subst (λ k. Verdict r k a) e (f .verdict))
+
+  -- a verdict and a refusal
+  clash : (a : Answer) (x : Refusal) → VerdictOn r l a → Fault (verdictInChecks r l) (said x) → ⊥
+  unfolding verdictInChecks
+  clash a x f g =
+      never-both (verdictInChecks r l) (sharp-verdict-in r l) (said x)
+      (passes-append (runChecks r) (pieceBlockChecks l) (f .run) (pieces.block-passes l (f .piece) (f .same) (f .good))) g
+
+  pub verdict-in-one : (v w : told.Verdict) → VerdictInSays r l v → VerdictInSays r l w → v ≡ w
+  verdict-in-one Clear Clear f g = refl
+  verdict-in-one Clear (Mark n) f g = one-told r (g .piece) Clear (Mark n) (judged clear (blocked n) f g) (judged (blocked n) (blocked n) g g)
+  verdict-in-one (Mark m) Clear f g = one-told r (g .piece) (Mark m) Clear (judged (blocked m) clear f g) (judged clear clear g g)
+  verdict-in-one (Mark m) (Mark n) f g = one-told r (g .piece) (Mark m) (Mark n) (judged (blocked m) (blocked n) f g) (judged (blocked n) (blocked n) g g)
+  verdict-in-one Clear (Unjudged y) f g = absurd (clash clear y f g)
+  verdict-in-one (Mark m) (Unjudged y) f g = absurd (clash (blocked m) y f g)
+  verdict-in-one (Unjudged x) Clear f g = absurd (clash clear x g f)
+  verdict-in-one (Unjudged x) (Mark n) f g = absurd (clash (blocked n) x g f)
+  verdict-in-one (Unjudged x) (Unjudged y) f g = ap Unjudged (refused-one (verdictInChecks r l) (sharp-verdict-in r l) x y f g)

@@ -1,4 +1,5 @@
 pub mod Layout
 pub mod Reading
 pub mod Scan
+pub mod Verdicts
 pub mod Word

@@ -1,11 +1,12 @@
 // Blocks of 512 bytes: a header, a piece or a run as bytes, one block at a time.
-// specs/Layout.antt makes the bytes of each kind, specs/Reading.antt says what reading and writing answer.
+// specs/Layout.antt makes the bytes of each kind, specs/Reading.antt says what reading and writing answer, specs/Verdicts.antt what a verdict on a block answers.
 mod fill;
 mod header;
 mod pieces;
 mod runs;
 mod scan;
 mod sums;
+mod verdicts;
 mod word;
 
 pub use fill::write_bytes;
@@ -21,6 +22,7 @@ use refusal::Refusal;
 pub use runs::read_run;
 pub use runs::write_run;
 pub use sums::check_block;
+pub use verdicts::verdict_in;
 
 // A header's piece count.
 pub enum HeaderRead {

@@ -41,7 +41,7 @@ fn check_piece_bytes(block: &[u8]) -> Checked
     check_unnamed(block, 12 + 4 * count)
 }
 
-fn check_piece_block(block: &[u8]) -> Checked
+pub(crate) fn check_piece_block(block: &[u8]) -> Checked
     ensures { λ r. ⌜ Finds (blockChecks (now (block .entry)) ++ pieceBytes (now (block .entry))) r ⌝ }
 {
     match check_block(block) {

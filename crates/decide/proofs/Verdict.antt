@@ -9,16 +9,16 @@ use lib.IntN.{ℤ, pos, negℤ, _+ℤ_, _-ℤ_, _*ℤ_}
 use lib.Signed.{_≤ℤ_, _<ℤ_}
 use Rattle.whole.specs.Fraction.{Frac, _≼_, _≺_, mark, whole, Floor}
 use Rattle.whole.proofs.Fraction.{trans, apart}
-use Rattle.whole.proofs.Flag.{lt-not-eq}
 use Rattle.whole.proofs.Order.{eq-le}
 use Rattle.whole.proofs.Polynomial.{vars6, poly, by-ring}
 use Rattle.rules.specs.Reach.{Run, Piece, Ticks}
 use Rattle.rules.specs.Ring.{Pt, Ring, ring}
 use Rattle.rules.specs.Place.{Where, on, inside, outside, Place}
 use Rattle.rules.specs.Contact.{Moment, InBand, Contact}
-use Rattle.rules.specs.Verdict.{Answer, clear, blocked, Mark, Verdict, NONE, answer}
+use Rattle.rules.specs.Verdict.{Mark, Verdict, NONE, answer}
 use Rattle.rules.proofs.Crossing.{flag, parity}
 use Rattle.rules.proofs.Place.{bit, place-parity}
+use Rattle.rules.proofs.Verdict.{mark-answers}
 use Rattle.rules.proofs.Contact.{place-relative, relative-place}
 use Rattle.decide.specs.Span.{Span, ticks, clip, some, first}
 use Rattle.decide.specs.Touch.{touches, place, pointOf, motion, bandSpan, startPoint, over, fromPlace, meets, code}
@@ -90,12 +90,6 @@ module _ (r : Run) (k : Piece) where
     before = λ t q l g. apart t (mark (pos c)) l (trans (mark (pos c)) lo t (m .low) (f t (in-span t q (g .band)) g));
   }
 
-  answer-mark : (c : ℕ) → c < NONE → answer c ≡ blocked c
-  answer-mark c h = rw (lt-not-eq c NONE h)
-
-  as-verdict : (c : ℕ) → c < NONE → Mark r k c → Verdict r k (answer c)
-  as-verdict c h m = subst (λ (a : Answer). Verdict r k a) (sym (answer-mark c h)) m
-
   -- outside at the begin: every contact comes at or after a touch
   touch-before : (s : Frac) → In span s → ((t : Frac) → In span t → s ≼ t) → Here s outside → (t : Frac) → In span t → Contact r k t → (u : Frac) × In span u × (u ≼ t) × OnFirst corners (pointOf r) (motion r k) (corners .size) u
   touch-before s i f h t j c = ⊎-elim touched crossed (placed t c)
@@ -116,7 +110,7 @@ module _ (r : Run) (k : Piece) where
   later : (c : ℕ) (s : Frac) → In span s → ((t : Frac) → In span t → s ≼ t) → Here s outside → FirstAt span (OnFirst corners (pointOf r) (motion r k) (corners .size)) c → Verdict r k (answer c)
   later c s i f h (never e g) = subst (λ (n : ℕ). Verdict r k (answer n)) (sym e) (λ t m q. let x = touch-before s i f h t (in-span t m (q .band)) q in g (x .0) (x .1) (x .3))
   later c s i f h (when lo j q g m b) =
-      as-verdict c b
+      mark-answers r k c b
       (marked c lo j (contact lo j (inl (record { edge = q .0; below = q .1; on = q .2 }))) (λ t l z. let x = touch-before s i f h t l z in trans lo (x .0) t (g (x .0) (x .1) (x .3)) (x .2)) m)
 
   pub verdict-right : Ticks (r .ticks) → Verdict r k (answer (code r k))
@@ -130,7 +124,7 @@ module _ (r : Run) (k : Piece) where
       earliest t j = j .after
 
       here : In span lo → Here lo on ⊎ Here lo inside → Verdict r k (answer (first span))
-      here i h = as-verdict (first span) (below-none (first span) lo (first-mark span proper) (early ok lo i)) (marked (first span) lo i (contact lo i h) (λ t j c. earliest t j) (first-mark span proper))
+      here i h = mark-answers r k (first span) (below-none (first span) lo (first-mark span proper) (early ok lo i)) (marked (first span) lo i (contact lo i h) (λ t j c. earliest t j) (first-mark span proper))
 
       from : (w : Where) → Here lo w → In span lo → Verdict r k (answer (fromPlace w (first span) (touches corners (pointOf r) (motion r k) span (corners .size))))
       from on p i = here i (inl p)

@@ -1,7 +1,7 @@
--- At most one answer is the verdict, a mark is at most 256·T, and a code can be told from its answer. Assumes nothing.
+-- At most one answer is the verdict, a mark is at most 256·T, a mark is the answer that its number codes, and a code can be told from its answer. Assumes nothing.
 use mathlib.Core.Path.{_≡_, refl, sym, ap, _∙_}
 use mathlib.Core.Bool.{Bool, true, false, cond}
-use Prim.Native.Nat.{ℕ, _*_, _≤_}
+use Prim.Native.Nat.{ℕ, _*_, _≤_, _<_}
 use native.Mathlib.Omega.{arith}
 use lib.Dec.{leb→le, eqb, eqb→eq}
 use lib.IntN.{pos, _+ℤ_}
@@ -9,7 +9,7 @@ use lib.Signed.{_≤ℤ_}
 use Rattle.whole.specs.Fraction.{mark, whole}
 use Rattle.whole.proofs.Fraction.{trans, less, lt-then-le, marks}
 use Rattle.whole.proofs.Order.{antisym}
-use Rattle.whole.proofs.Flag.{yes-of}
+use Rattle.whole.proofs.Flag.{yes-of, lt-not-eq}
 use Rattle.rules.specs.Reach.{Run, Piece}
 use Rattle.rules.specs.Verdict.{Answer, clear, blocked, NONE, answer, Mark, Verdict}
 
@@ -27,6 +27,9 @@ one-verdict r p (blocked j) (blocked k) f g = ap blocked (same j k (antisym _ _ 
 
 pub mark-most : (r : Run) (p : Piece) (k : ℕ) → Mark r p k → k ≤ 256 * r .ticks
 mark-most r p k f = let l = leb→le (k * 1) (r .ticks * 256) (trans (mark (pos k)) (f .when) (whole (pos (r .ticks))) (f .within .low) (f .moment .to) .le) in omega arith
+
+pub mark-answers : (r : Run) (p : Piece) (k : ℕ) → k < NONE → Mark r p k → Verdict r p (answer k)
+mark-answers r p k h m = rw (lt-not-eq k NONE h) m
 
 abbrev coded : Answer → ℕ
 coded clear = NONE

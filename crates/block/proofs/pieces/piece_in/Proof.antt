@@ -1,20 +1,16 @@
 -- `block::pieces::piece_in` meets its contract: the block holds the piece that was read. Assumes nothing.
 use mathlib.Core.Path.{sym}
-use mathlib.Core.Logic.{inl}
-use mathlib.Core.List.{[], _∷_, _++_}
 use Prim.Native.Nat.{_*_}
 use native.Mathlib.Omega.{arith}
 use lib.ListN.{take}
 use lib.Seq.{length-take-le}
 use denote.Ref.{now}
 use Rattle.rules.specs.Good.{pieceChecks}
-use Rattle.rules.proofs.Checks.{fault-right}
 use Rattle.refusal.specs.declared.Checked.the-variants.{Good}
 use Rattle.piece.specs.Numbers.{pieceOf}
 use Rattle.block.specs.Layout.{byte}
-use Rattle.block.specs.Reading.{blockChecks, pieceBytes, pieceBlockChecks, PieceIn, inside}
 use Rattle.block.proofs.Found.{found-good, found-bad}
-use Rattle.block.proofs.PieceLaws.{block-long, count-most, piece-in, piece-holds, says-refused}
+use Rattle.block.proofs.PieceLaws.{block-long, count-most, inside-fault, piece-in, piece-holds, says-refused}
 use borrow.Author.Needs.{needs}
 use Rattle.block.proofs.pieces.piece_in.Statement.{statement}
 use Rattle.block.proofs.pieces.piece_in.Tie as tie
@@ -53,17 +49,13 @@ enum-told : tie.Need-enum-told
 enum-told c = search needs
 
 returns : tie.Need-returns
-unfolding pieceBlockChecks
 returns c =
     let l = now (c .before .before .before .before .before .before .before .before .before .before .args .block) in let b = c .before .before .before .before .before .before .before .band-at .result in let a = c .before .before .before .before .before .before .corners-at .result in let p = c .before .before .before .before .before .before .before .before .before .before .pre in
     let k = pieceOf b (take (2 * byte l 1) a) in
     says-refused l (c .refused .result) _ (c .refused .ensures .0)
-    (fault-right (blockChecks l ++ pieceBytes l) (inside (PieceIn l) pieceChecks ∷ []) _ p
-    (inl (
-      k,
-      piece-in l b a (c .before .before .before .before .before .before .before .before .before .shared-slice-known .given) p (c .before .before .before .before .before .before .before .band-at .ensures) (c .before .before .before .before .before .before .corners-at .ensures),
-      found-bad (pieceChecks k) _ _ (c .before .before .before .before .check-piece .ensures) (c .before .before .x .given .1),
-    ))) (c .refused .ensures .1)
+    (inside-fault l k _ p
+    (piece-in l b a (c .before .before .before .before .before .before .before .before .before .shared-slice-known .given) p (c .before .before .before .before .before .before .before .band-at .ensures) (c .before .before .before .before .before .before .corners-at .ensures))
+    (found-bad (pieceChecks k) _ _ (c .before .before .before .before .check-piece .ensures) (c .before .before .x .given .1))) (c .refused .ensures .1)
 
 returns-2 : tie.Need-returns-2
 returns-2 c =

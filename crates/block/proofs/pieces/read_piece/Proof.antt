@@ -1,11 +1,9 @@
 -- `block::pieces::read_piece` meets its contract. Assumes nothing.
-use mathlib.Core.List.{[], _∷_, _++_}
+use mathlib.Core.List.{_++_}
 use denote.Ref.{now}
-use Rattle.rules.specs.Good.{pieceChecks}
-use Rattle.rules.proofs.Checks.{fault-left}
-use Rattle.block.specs.Reading.{blockChecks, pieceBytes, pieceBlockChecks, PieceIn, inside}
+use Rattle.block.specs.Reading.{blockChecks, pieceBytes}
 use Rattle.block.proofs.Found.{found-good, found-bad}
-use Rattle.block.proofs.PieceLaws.{says-refused}
+use Rattle.block.proofs.PieceLaws.{bytes-fault, says-refused}
 use borrow.Author.Needs.{needs}
 use Rattle.block.proofs.pieces.read_piece.Statement.{statement}
 use Rattle.block.proofs.pieces.read_piece.Tie as tie
@@ -26,11 +24,10 @@ piece-in-requires : tie.Need-piece-in-requires
 piece-in-requires c κs = let l = now (c .before .before .before .before .args .block) in found-good (blockChecks l ++ pieceBytes l) _ (c .before .before .check-piece-block .ensures) (c .enum-told .given .1)
 
 returns : tie.Need-returns
-unfolding pieceBlockChecks
 returns c =
     let l = now (c .before .before .before .before .before .before .args .block) in
     says-refused l (c .refused .result) _ (c .refused .ensures .0)
-    (fault-left (blockChecks l ++ pieceBytes l) (inside (PieceIn l) pieceChecks ∷ []) _
+    (bytes-fault l _
     (found-bad (blockChecks l ++ pieceBytes l) _ _ (c .before .before .before .before .check-piece-block .ensures) (c .before .before .x .given .1))) (c .refused .ensures .1)
 
 returns-2 : tie.Need-returns-2
