@@ -1,27 +1,28 @@
--- Laws of the pass over a room: the corners that a reading holds, a code for each piece, and the codes in the lent list. Assumes nothing.
-use mathlib.Core.Path.{_≡_, refl, sym, ap, subst, _∙_}
+-- Laws of the pass over a room: a code for each piece, and the codes in the lent list. Assumes nothing.
+use mathlib.Core.Path.{_≡_, refl, _∙_}
 use mathlib.Core.Logic.{inl}
 use mathlib.Core.List.{List, [], _∷_, _++_}
-use Prim.Native.Nat.{ℕ, suc, _+_, _*_, _-_, _≤_, _<_}
+use Prim.Native.Nat.{ℕ, suc, _+_, _≤_, _<_}
 use native.Mathlib.Omega.{arith}
 use native.Mathlib.Numerals.{add-one}
 use borrow.Author.Count.{below-more}
-use lib.IntN.{ℤ, pos}
-use lib.ListN.{length, take, getD, set, replicate, length-append, length-set}
-use lib.Seq.{take-at, getD-set-same, getD-set-other}
-use Rattle.rules.specs.Reach.{Run, Piece}
+use lib.ListN.{length, getD, set, length-set}
+use lib.Seq.{getD-set-same, getD-set-other}
+use Rattle.rules.specs.Reach.{Run}
 use Rattle.rules.specs.Refusal.{refuse, Check, Passes, Fault, demand}
-use Rattle.rules.specs.Good.{Sized, runChecks}
-use Rattle.rules.proofs.Reach.{run-known, piece-known}
+use Rattle.rules.specs.Good.{runChecks}
+use Rattle.rules.specs.Verdict.{clear, blocked, NONE}
+use Rattle.rules.proofs.Reach.{run-known}
 use Rattle.rules.proofs.Checks.{passes-append, passes-left, fault-left, fault-right}
+use Rattle.rules.proofs.Good.{sharp-run}
+use Rattle.rules.proofs.Verdict.{mark-most, mark-answers}
 use Rattle.refusal.specs.declared.Refusal.{Refusal}
 use Rattle.refusal.specs.declared.Refusal.the-variants.{Short}
 use Rattle.refusal.specs.Said.{said}
-use Rattle.piece.specs.Numbers.{pieceOf}
-use Rattle.piece.specs.Code.{CodeSays}
-use Rattle.block.specs.declared.PieceRead.{PieceRead}
-use Rattle.block.specs.Reading.{pieceBlockChecks, PieceGood}
-use Rattle.block.proofs.PieceLaws.{sized-length, sized-most, good-sized, piece-passes}
+use Rattle.block.specs.Reading.{pieceBlockChecks}
+use Rattle.block.specs.Verdicts.{VerdictOn, verdictInChecks}
+use Rattle.block.proofs.Found.{fault-past}
+use Rattle.block.proofs.PieceLaws.{block-passes}
 use Rattle.block.specs.Layout.{blockAt}
 use Rattle.room.specs.Image.{count, saidIn, headChecks, piecesCheck, roomChecks}
 use Rattle.room.specs.declared.Counted.the-variants.{Refused}
@@ -33,44 +34,27 @@ use Rattle.room.proofs.Images.{fault-zero, head-few}
 pub none-below : (i : ℕ) → i < 0 → ⊥
 none-below i h = omega arith
 
--- ---- the corners that a reading holds
-module _ (l : List ℕ) (r : PieceRead) (g : PieceGood l r) where
-  abbrev k : Piece
-  k = g .piece
-
-  sized : Sized (k .corners)
-  sized = good-sized k (g .good)
-
-  pub held-count : 2 * r .count ≡ length (k .corners)
-  held-count = let e = sized-length (k .corners) sized in let f = g .holds .count in omega arith
-
-  pub held-few : 2 * r .count ≤ 128
-  held-few = let e = sized-most (k .corners) sized in let f = held-count in omega arith
-
-  pub held-long : 2 * r .count ≤ length (r .corners)
-  held-long =
-      let f = held-count in
-      omega (arith, simp length-append at (ap length (g .holds .corners)))
-
-  held-corners : take (2 * r .count) (r .corners) ≡ k .corners
-  held-corners = ap (take (2 * r .count)) (g .holds .corners) ∙ take-at (k .corners) (replicate (128 - length (k .corners)) (pos 0)) (2 * r .count) (sym held-count)
-
-  pub held-piece : pieceOf (r .band) (take (2 * r .count) (r .corners)) ≡ k
-  held-piece = ap (λ (m : List ℤ). pieceOf (r .band) m) held-corners ∙ g .holds .numbers
-
 -- ---- the code of a piece
-module _ (r : Run) (image : List ℕ) (good : Passes (runChecks r)) where
-  pub code-good : (i : ℕ) (p : PieceRead) → PieceGood (blockAt image (suc i)) p → (c : ℕ) → CodeSays r (pieceOf (p .band) (take (2 * p .count) (p .corners))) c → CodeOf r image i c
-  code-good i p g c h = record {
-    piece = g .piece;
-    block = g .same;
-    good = g .good;
-    verdict = subst (λ (m : Piece). CodeSays r m c) (held-piece _ p g) h .verdict (run-known r good) (piece-known (g .piece) (g .good));
+module _ (r : Run) (image : List ℕ) (i : ℕ) where
+  pub code-clear : VerdictOn r (blockAt image (suc i)) clear → CodeOf r image i NONE
+  code-clear v = record { piece = v .piece; block = v .same; good = v .good; verdict = v .verdict }
+
+  pub code-mark : (k : ℕ) → VerdictOn r (blockAt image (suc i)) (blocked k) → CodeOf r image i k
+  code-mark k v = record {
+    piece = v .piece;
+    block = v .same;
+    good = v .good;
+    verdict = mark-answers r (v .piece) k (omega (arith, mark-most r (v .piece) k (v .verdict), run-known r (v .run) 6 (omega arith))) (v .verdict);
   }
+
+  -- the run is good, so the block is refused
+  pub code-none : Passes (runChecks r) → (x : Refusal) → Fault (verdictInChecks r (blockAt image (suc i))) (said x) → Fault (pieceBlockChecks (blockAt image (suc i))) (said x)
+  unfolding verdictInChecks
+  code-none good x f = fault-past (runChecks r) (pieceBlockChecks (blockAt image (suc i))) (sharp-run r) (said x) good f
 
 -- a piece that has a code passes
 pub code-passes : (r : Run) (image : List ℕ) (i c : ℕ) → CodeOf r image i c → Passes (pieceBlockChecks (blockAt image (suc i)))
-code-passes r image i c h = rw (h .block) (piece-passes (h .piece) (h .good))
+code-passes r image i c h = block-passes (blockAt image (suc i)) (h .piece) (h .block) (h .good)
 
 module _ (r : Run) (image : List ℕ) where
   pub codes-more : (codes : List ℕ) (i c : ℕ) → i < length codes → CodesTo r image codes i → CodeOf r image i c → CodesTo r image (set codes i c) (i + 1)

@@ -1,10 +1,10 @@
 // The verdicts of a room: one pass over its pieces into codes, and only then the lent list.
 use crate::Counted;
 use crate::image::head;
-use crate::image::read_block;
+use block::verdict_in;
 use piece::Run;
+use piece::Verdict;
 use piece::check_run;
-use piece::code;
 use refusal::Checked;
 use refusal::Refusal;
 ghost use mathlib.Core.Path.{_≡_};
@@ -16,6 +16,9 @@ ghost use Rattle.piece.specs.Numbers.{runOf};
 ghost use Rattle.room.specs.Codes.{CodeFound, CodesSay, Stored};
 ghost use Rattle.room.specs.Image.{count, headChecks, Has};
 ghost use Rattle.room.specs.Verdicts.{VerdictsSay};
+
+// Clear, as a verdict is coded.
+const NONE: u32 = 4294967295;
 
 // The verdict on one piece, coded.
 pub(crate) enum Coded {
@@ -33,16 +36,12 @@ fn code_of(run: Run, image: &[u8], i: usize) -> Coded
     requires { ⌜ Passes (runChecks (runOf run)) × Has (now image) i ⌝ }
     ensures { λ r. ⌜ CodeFound (runOf run) (now (image .entry)) i r ⌝ }
 {
-    let p = read_block(image, i);
-    let found = p.found;
-    match found {
-        Checked::Refused(x) => Coded::NoPiece(x),
-        Checked::Good => {
-            let band = p.band;
-            let corners = p.corners;
-            let n = 2 * p.count;
-            Coded::Code(code(run, band, &corners[..n]))
-        }
+    let from = 512 * (i + 1);
+    let to = from + 512;
+    match verdict_in(run, &image[from..to]) {
+        Verdict::Clear => Coded::Code(NONE),
+        Verdict::Mark(k) => Coded::Code(k),
+        Verdict::Refused(x) => Coded::NoPiece(x),
     }
 }
 

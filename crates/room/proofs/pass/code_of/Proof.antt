@@ -1,63 +1,84 @@
--- `room::pass::code_of` meets its contract: the verdict on what the reading holds is the verdict on the piece. Assumes nothing.
-use mathlib.Core.Path.{sym}
-use Prim.Native.Nat.{suc}
+-- `room::pass::code_of` meets its contract: piece i stands in block i + 1, and its verdict is coded. Assumes nothing.
+use mathlib.Core.Path.{_≡_, subst}
+use mathlib.Core.List.{List}
+use Prim.Native.Nat.{ℕ, suc}
 use native.Mathlib.Omega.{arith}
-use lib.Seq.{length-take-le}
 use denote.Ref.{now}
+use Rattle.piece.specs.declared.motion.Verdict.{Verdict}
+use Rattle.piece.specs.declared.motion.Verdict.the-variants.{Clear, Mark, Refused}
 use Rattle.piece.specs.Numbers.{runOf}
-use Rattle.block.specs.Reading.{PieceGood}
 use Rattle.block.specs.Layout.{blockAt}
-use Rattle.room.proofs.Steps.{piece-good, piece-bad}
-use Rattle.room.proofs.Coding.{held-few, held-long, code-good}
+use Rattle.block.specs.Verdicts.{VerdictInSays}
+use Rattle.room.proofs.Images.{part-is, has-few, has-long}
+use Rattle.room.proofs.Coding.{code-clear, code-mark, code-none}
 use borrow.Author.Needs.{needs}
 use Rattle.room.proofs.pass.code_of.Statement.{statement}
 use Rattle.room.proofs.pass.code_of.Tie as tie
 
-read-block-requires : tie.Need-read-block-requires
-read-block-requires c κs = search needs
+add-from : tie.Need-add-from
+add-from c = let h = has-few _ _ (c .before .pre .1) in omega arith
 
-enum-known-found : tie.Need-enum-known-found
-enum-known-found c = search needs
+mul-from : tie.Need-mul-from
+mul-from c = let h = has-few _ _ (c .before .pre .1) in omega arith
+
+add-to : tie.Need-add-to
+add-to c = let h = has-few _ _ (c .before .pre .1) in omega arith
+
+sub-verdict-in : tie.Need-sub-verdict-in
+sub-verdict-in c = search needs
+
+part-verdict-in-start : tie.Need-part-verdict-in-start
+part-verdict-in-start c = search needs
+
+part-verdict-in-end : tie.Need-part-verdict-in-end
+part-verdict-in-end c = let h = has-long _ _ (c .before .pre .1) in omega arith
+
+verdict-in-requires : tie.Need-verdict-in-requires
+verdict-in-requires c κs = search needs
+
+-- the verdict on the block, where it is known
+told : (c : tie.After-verdict-in) (v : Verdict) → c .verdict-in .result ≡ v → VerdictInSays (runOf (c .before .before .before .args .run)) (blockAt (now (c .before .before .before .args .image)) (suc (c .before .before .before .args .i))) v
+told c v e =
+    let a = c .before .before .before .args in
+    subst (VerdictInSays (runOf (a .run)) (blockAt (now (a .image)) (suc (a .i)))) e
+    (subst (λ (l : List ℕ). VerdictInSays (runOf (a .run)) l (c .verdict-in .result)) (part-is (now (a .image)) (a .i)) (c .verdict-in .ensures))
 
 enum-told : tie.Need-enum-told
 enum-told c = search needs
 
--- the piece that was read
-read : (c : tie.After-enum-told) → PieceGood (blockAt (now (c .before .before .before .before .args .image)) (suc (c .before .before .before .before .args .i))) (c .before .before .read-block .result)
-read c = let d = c .before .before in piece-good _ (d .read-block .result) (d .read-block .ensures) (c .enum-told .given .1)
+enum-known-k : tie.Need-enum-known-k
+enum-known-k c = search needs
 
-mul-n : tie.Need-mul-n
-mul-n c = let h = held-few _ _ (read (c .before .before .before)) in omega arith
-
-array-share-prefix-corners : tie.Need-array-share-prefix-corners
-array-share-prefix-corners c = held-long _ _ (read (c .before .before .before))
-
-slice-aggregate-code : tie.Need-slice-aggregate-code
-slice-aggregate-code c = sym (length-take-le _ _ (held-long _ _ (read (c .before .before .before .before))))
-
-code-requires : tie.Need-code-requires
-code-requires c κs = search needs
+enum-known-x : tie.Need-enum-known-x
+enum-known-x c = search needs
 
 returns : tie.Need-returns
-returns c =
-    let d = c .before .before .before in
-    piece-bad _ (d .read-block .result) (c .before .found .given .0 .0) (d .read-block .ensures) (c .before .found .given .1)
+returns c = let d = c .before .before in let a = d .before .before .before .args in code-clear (runOf (a .run)) (now (a .image)) (a .i) (told d Clear (c .enum-told .given .1))
 
 returns-2 : tie.Need-returns-2
 returns-2 c =
-    let d = c .before .before .before .before .before in let a = d .before .before .before .before in
-    code-good (runOf (a .args .run)) (now (a .args .image)) (a .pre .0) (a .args .i) (d .before .before .read-block .result) (read d) (c .code .result) (c .code .ensures)
+    let d = c .before .before .before in let a = d .before .before .before .args in let k = c .before .k .given .0 .0 in
+    code-mark (runOf (a .run)) (now (a .image)) (a .i) k (told d (Mark k) (c .before .k .given .1))
+
+returns-3 : tie.Need-returns-3
+returns-3 c =
+    let d = c .before .before .before in let s = d .before .before .before in let a = s .args in let x = c .before .x .given .0 .0 in
+    code-none (runOf (a .run)) (now (a .image)) (a .i) (s .pre .0) x (told d (Refused x) (c .before .x .given .1))
 
 pub code-of-spec : {M : Type 1} → statement M
 code-of-spec =
     tie.close
     (tie.spec
-    read-block-requires
-    enum-known-found
+    add-from
+    mul-from
+    add-to
+    sub-verdict-in
+    part-verdict-in-start
+    part-verdict-in-end
+    verdict-in-requires
     enum-told
-    mul-n
-    array-share-prefix-corners
-    slice-aggregate-code
-    code-requires
+    enum-known-k
+    enum-known-x
     returns
-    returns-2)
+    returns-2
+    returns-3)
