@@ -28,13 +28,21 @@ pub slots-of : (book : List ℕ) (r : Run) (k : Piece) → Passes (askChecks boo
 unfolding askChecks
 slots-of book r k p = p .0
 
+pub run-passes : (r : Run) (k : Piece) → Passes (verdictChecks r k) → Passes (runChecks r)
+unfolding verdictChecks
+run-passes r k p = passes-left (runChecks r) (pieceChecks k) p
+
+pub piece-passes : (r : Run) (k : Piece) → Passes (verdictChecks r k) → Passes (pieceChecks k)
+unfolding verdictChecks
+piece-passes r k p = passes-right (runChecks r) (pieceChecks k) p
+
 pub run-of : (book : List ℕ) (r : Run) (k : Piece) → Passes (askChecks book r k) → RunKnown r
-unfolding askChecks verdictChecks
-run-of book r k p = run-known r (passes-left (runChecks r) (pieceChecks k) (p .1))
+unfolding askChecks
+run-of book r k p = run-known r (run-passes r k (p .1))
 
 pub piece-of : (book : List ℕ) (r : Run) (k : Piece) → Passes (askChecks book r k) → PieceKnown k
-unfolding askChecks verdictChecks
-piece-of book r k p = piece-known k (passes-right (runChecks r) (pieceChecks k) (p .1))
+unfolding askChecks
+piece-of book r k p = piece-known k (piece-passes r k (p .1))
 
 pub checks-elsewhere : (book after : List ℕ) (r : Run) (k : Piece) → length after ≡ length book → Passes (askChecks after r k) → Passes (askChecks book r k)
 unfolding askChecks

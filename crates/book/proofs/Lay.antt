@@ -1,88 +1,111 @@
--- The first bytes of an entry, from the blocks of its run and its piece. Assumes nothing.
+-- The first bytes of an entry, laid out. Assumes nothing.
 use mathlib.Core.Path.{_≡_, refl, sym, ap, subst, _∙_}
-use mathlib.Core.Logic.{⊎-elim}
+use mathlib.Core.Bool.{Bool, true, false}
 use mathlib.Core.List.{List, [], _∷_, _++_, append-assoc}
-use Prim.Native.Nat.{ℕ, suc, _+_, _%_, _≤_, _<_}
+use Prim.Native.Nat.{ℕ, zero, suc, _+_, _*_, _-_, _/_, _%_, _≤_, _<_}
 use native.Mathlib.Omega.{arith}
-use lib.ListN.{length, take, drop, set, length-append}
-use lib.Seq.{take-at, drop-drop, getD-take}
+use lib.IntN.{ℤ}
+use lib.ListN.{length, set, take, drop, replicate, length-append, length-drop}
+use lib.Seq.{take-at, drop-at, getD-take}
 use Rattle.rules.specs.Reach.{Run, Piece}
-use Rattle.rules.specs.Refusal.{Refusal, Check, Passes, Fault}
-use Rattle.rules.specs.Good.{PieceKnown, runChecks, pieceChecks}
-use Rattle.rules.specs.Verdict.{verdictChecks}
-use Rattle.rules.proofs.Checks.{passes-append, fault-left, fault-right}
-use Rattle.rules.proofs.Reach.{piece-known}
+use Rattle.rules.specs.Refusal.{Check, Passes, Fault}
+use Rattle.rules.specs.Good.{PieceKnown, pieceChecks}
+use Rattle.rules.proofs.Checks.{AllSharp, never-both}
 use Rattle.refusal.specs.Said.{said}
 use Rattle.refusal.specs.declared.Refusal as told
 use Rattle.refusal.specs.declared.Checked.{Checked}
 use Rattle.refusal.specs.declared.Checked.the-variants.{Good, Refused}
-use Rattle.block.specs.Layout.{byte, sum, runBody, pieceBody}
-use Rattle.block.specs.Reading.{lengthCheck, Writes}
+use Rattle.piece.specs.declared.Band.{Band}
+use Rattle.piece.specs.Numbers.{pieceOf}
+use Rattle.block.specs.Layout.{byte, sum, words, filled, runBody, pieceNumbers, pieceBody}
+use Rattle.block.specs.Reading.{Writes}
 use Rattle.block.proofs.Bytes.{sum-same}
 use Rattle.block.proofs.Bodies.{run-body-length}
+use Rattle.block.proofs.Parts.{mid, mid-length, mid-front}
+use Rattle.block.proofs.PieceLaws.{bandNumbers}
+use Rattle.block.proofs.Words.{words-length}
 use Rattle.book.specs.Entry.{slots, question, home}
 use Rattle.book.specs.Steps.{Lays, Begun, Begins}
-use Rattle.book.proofs.Question.{question-length, piece-length}
+use Rattle.book.proofs.Question.{question-length}
 
--- ---- what a writer of blocks answered, where its answer is known
-module _ (cs : List Check) (made before after : List ℕ) (r : Checked) (w : Writes cs made before after r) where
-  pub wrote : r ≡ Good → Passes cs × (after ≡ made)
-  wrote e = subst (Writes cs made before after) e w
+-- ---- what was written
+module _ (cs : List Check) (sharp : AllSharp cs) (made before after : List ℕ) (r : Checked) (w : Writes cs made before after r) where
+  pub wrote : r ≡ Good → after ≡ made
+  wrote e = (subst (Writes cs made before after) e w) .1
 
-  pub faulty : (x : told.Refusal) → r ≡ Refused x → Fault cs (said x)
-  faulty x e = (subst (Writes cs made before after) e w) .0
+  pub refused : (x : told.Refusal) → r ≡ Refused x → Passes cs → ⊥
+  refused x e p = never-both cs sharp (said x) p ((subst (Writes cs made before after) e w) .0)
 
--- and what a part laid out answered
-module _ (cs : List Check) (from : ℕ) (bytes before after : List ℕ) (r : Checked) (w : Lays cs from bytes before after r) where
-  pub lays-good : r ≡ Good → Passes cs × (after ≡ take from before ++ (bytes ++ drop (from + length bytes) before))
-  lays-good e = subst (Lays cs from bytes before after) e w
+pub written : (cs : List Check) → AllSharp cs → (made before after : List ℕ) (r : Checked) → Writes cs made before after r → Passes cs → after ≡ made
+written cs sharp made before after Good w p = w .1
+written cs sharp made before after (Refused x) w p = absurd (never-both cs sharp (said x) p (w .0))
 
-  pub lays-bad : (x : told.Refusal) → r ≡ Refused x → Fault cs (said x)
-  lays-bad x e = subst (Lays cs from bytes before after) e w
+-- ---- zeros that bytes take the place of
+abbrev zeros : ℕ → List ℕ
+zeros n = replicate n 0
 
-module _ (r : Run) (k : Piece) (front : List ℕ) (q : Checked) (w : Begins r k front q) where
-  pub begins-good : q ≡ Good → Passes (verdictChecks r k) × Begun r k front
-  begins-good e = subst (Begins r k front) e w
+drop-zeros : (n m : ℕ) → drop n (zeros m) ≡ zeros (m - n)
+drop-zeros zero m = let e : m ≡ m - 0 = omega arith in ap zeros e
+drop-zeros (suc n) zero = let e : 0 ≡ 0 - suc n = omega arith in ap zeros e
+drop-zeros (suc n) (suc m) = let e : m - n ≡ suc m - suc n = omega arith in drop-zeros n m ∙ ap zeros e
 
-  pub begins-bad : (x : told.Refusal) → q ≡ Refused x → Fault (verdictChecks r k) (said x)
-  begins-bad x e = subst (Begins r k front) e w
+pub grown : (a ys : List ℕ) (i j n : ℕ) → length a ≡ i → length ys ≡ j → mid i j (a ++ zeros n) ys ≡ (a ++ ys) ++ zeros (n - j)
+grown a ys i j n e f =
+    ap (λ (h : List ℕ). h ++ (ys ++ drop j (drop i (a ++ zeros n)))) (take-at a (zeros n) i e)
+    ∙ ap (λ (h : List ℕ). a ++ (ys ++ h)) (ap (drop j) (drop-at a (zeros n) i e) ∙ drop-zeros j n)
+    ∙ sym (append-assoc a ys (zeros (n - j)))
 
--- a block of 512 bytes is refused for what it is asked to hold
-pub past-length : (l : List ℕ) (cs : List Check) (x : Refusal) → length l ≡ 512 → Fault (lengthCheck l ∷ cs) x → Fault cs x
-past-length l cs x h f = ⊎-elim (λ g. absurd (g .0 h)) (λ g. g .1) f
+-- ---- a piece's bytes: the count, the band and the corners, in zeros
+abbrev pub body : List ℕ → ℕ → List ℕ → ℕ → List ℕ → List ℕ
+body blank s band n corners = mid 11 n (mid 1 10 (set blank 0 s) band) corners
 
--- ---- a part that is copied over
-pub laid : (front bytes last : List ℕ) (a n : ℕ) → length bytes ≡ n → last ≡ bytes → take a front ++ (last ++ drop n (drop a front)) ≡ take a front ++ (bytes ++ drop (a + length bytes) front)
-laid front bytes last a n l e =
-    ap (λ (z : List ℕ). take a front ++ (z ++ drop n (drop a front))) e
-    ∙ ap (λ (z : List ℕ). take a front ++ (bytes ++ z)) (drop-drop n a front ∙ ap (λ m. drop (a + m) front) (sym l))
+module _ (b : Band) (l : List ℤ) (blank band corners : List ℕ) (n : ℕ) (z : blank ≡ zeros 267) (few : length l ≤ 128) (e : band ≡ words (bandNumbers b)) (f : corners ≡ words l) (m : n ≡ 2 * length l) where
+  banded : mid 1 10 (set blank 0 (length l / 2)) band ≡ ((length l / 2 ∷ []) ++ band) ++ zeros 256
+  banded = ap (λ (h : List ℕ). mid 1 10 (set h 0 (length l / 2)) band) z ∙ grown (length l / 2 ∷ []) band 1 10 266 refl (ap length e)
 
--- kind and zero
-start : (l : List ℕ) → 2 ≤ length l → take 2 (set (set l 0 3) 1 0) ≡ 3 ∷ 0 ∷ []
-start [] h = absurd (omega arith)
-start (x ∷ []) h = absurd (omega arith)
-start (x ∷ y ∷ l) h = refl
+  rest : zeros (256 - n) ≡ zeros (267 - length (length l / 2 ∷ words (pieceNumbers (pieceOf b l))))
+  rest = let h : 256 - n ≡ 267 - length (length l / 2 ∷ words (pieceNumbers (pieceOf b l))) = omega (arith, words-length l) in ap zeros h
 
-module _ (r : Run) (k : Piece) (front mid last : List ℕ) (n : length front ≡ 287) (p : Passes (runChecks r)) (run : mid ≡ take 2 (set (set front 0 3) 1 0) ++ (runBody r ++ drop (2 + length (runBody r)) (set (set front 0 3) 1 0))) where
-  sixteen : take 16 mid ≡ 3 ∷ 0 ∷ runBody r
-  sixteen =
-      ap (take 16) (run ∙ ap (λ (z : List ℕ). z ++ (runBody r ++ drop (2 + length (runBody r)) (set (set front 0 3) 1 0))) (start front (omega arith)))
-      ∙ take-at (3 ∷ 0 ∷ runBody r) (drop (2 + length (runBody r)) (set (set front 0 3) 1 0)) 16 (omega (arith, run-body-length r))
+  pub body-is : body blank (length l / 2) band n corners ≡ pieceBody (pieceOf b l)
+  unfolding pieceBody filled
+  body-is =
+      ap (λ (h : List ℕ). mid 11 n h corners) banded
+      ∙ grown ((length l / 2 ∷ []) ++ band) corners 11 n 256 (ap (λ (h : List ℕ). suc (length h)) e) (ap length f ∙ words-length l ∙ sym m)
+      ∙ ap (λ (h : List ℕ). (((length l / 2 ∷ []) ++ h) ++ corners) ++ zeros (256 - n)) e
+      ∙ ap (λ (h : List ℕ). (((length l / 2 ∷ []) ++ words (bandNumbers b)) ++ h) ++ zeros (256 - n)) f
+      ∙ ap (λ (h : List ℕ). (length l / 2 ∷ words (pieceNumbers (pieceOf b l))) ++ h) rest
 
-  all : PieceKnown k → last ≡ take 16 mid ++ (pieceBody k ++ drop (16 + length (pieceBody k)) mid) → take 283 last ≡ 3 ∷ 0 ∷ question r k
+-- ---- the run's bytes, and the piece's after them
+module _ (r : Run) (k : Piece) (front head body : List ℕ) (z : front ≡ zeros 287) (h : head ≡ 3 ∷ 0 ∷ runBody r) where
+  sixteen : length head ≡ 16
+  sixteen = ap length h ∙ ap (λ n. suc (suc n)) (run-body-length r)
+
+  pub headed-length : length (head ++ drop 16 front) ≡ 287
+  headed-length = omega (arith, length-append head (drop 16 front), length-drop 16 front, ap length z, sixteen)
+
+  pub room : take 267 (drop 16 (head ++ drop 16 front)) ≡ zeros 267
+  room = ap (take 267) (drop-at head (drop 16 front) 16 sixteen) ∙ ap (λ (l : List ℕ). take 267 (drop 16 l)) z
+
+  pub begin : length body ≡ 267 → body ≡ pieceBody k → Begun r k (mid 16 267 (head ++ drop 16 front) body)
   unfolding question
-  all h e =
-      ap (take 283) (e ∙ ap (λ (z : List ℕ). z ++ (pieceBody k ++ drop (16 + length (pieceBody k)) mid)) sixteen ∙ sym (append-assoc (3 ∷ 0 ∷ runBody r) (pieceBody k) (drop (16 + length (pieceBody k)) mid)))
-      ∙ take-at ((3 ∷ 0 ∷ runBody r) ++ pieceBody k) (drop (16 + length (pieceBody k)) mid) 283 (omega (arith, length-append (3 ∷ 0 ∷ runBody r) (pieceBody k), run-body-length r, piece-length k h))
+  begin n e = record {
+    long = mid-length (head ++ drop 16 front) body 16 267 (omega (arith, headed-length)) n ∙ headed-length;
+    first = mid-front (head ++ drop 16 front) body 16 267 (omega (arith, headed-length)) n
+        ∙ ap (λ (l : List ℕ). l ++ body) (take-at head (drop 16 front) 16 sixteen ∙ h)
+        ∙ ap (λ (l : List ℕ). (3 ∷ 0 ∷ runBody r) ++ l) e;
+  }
 
-  pub begins : (x : Checked) → length last ≡ 287 → Lays (pieceChecks k) 16 (pieceBody k) mid last x → Begins r k last x
-  unfolding verdictChecks
-  begins Good l w = (passes-append (runChecks r) (pieceChecks k) p (w .0), record { long = l; first = all (piece-known k (w .0)) (w .1) })
-  begins (Refused x) l w = fault-right (runChecks r) (pieceChecks k) (said x) p w
+-- ---- a piece that was laid out, or not
+pub lays-begins : (r : Run) (k : Piece) (body front : List ℕ) (b : Bool) → (body ≡ pieceBody k → Begun r k front) → Lays k body b → Begins r k front b
+lays-begins r k body front true f l = f l
+lays-begins r k body front false f l = l
 
-pub run-faulty : (r : Run) (k : Piece) (x : Refusal) → Fault (runChecks r) x → Fault (verdictChecks r k) x
-unfolding verdictChecks
-run-faulty r k x f = fault-left (runChecks r) (pieceChecks k) x f
+pub begun : (r : Run) (k : Piece) (front : List ℕ) (b : Bool) → Begins r k front b → b ≡ true → Begun r k front
+begun r k front b h e = subst (Begins r k front) e h
+
+pub begun-good : (r : Run) (k : Piece) (front : List ℕ) (b : Bool) → Begins r k front b → Passes (pieceChecks k) → (b ≡ true) × Begun r k front
+begun-good r k front true h p = (refl, h)
+begun-good r k front false h p = absurd (h p)
 
 -- ---- the home slot
 pub home-is : (book front : List ℕ) (r : Run) (k : Piece) → PieceKnown k → Begun r k front → sum (λ i. byte front (2 + i)) 281 % slots book ≡ home book r k

@@ -1,37 +1,34 @@
 -- What the steps of asking lay out and find. Assumes nothing.
 use mathlib.Core.Path.{_≡_}
+use mathlib.Core.Bool.{Bool, true, false}
 use mathlib.Core.List.{List, _∷_, _++_}
 use Prim.Native.Nat.{ℕ, _+_, _*_, _<_}
-use lib.ListN.{length, take, drop}
+use lib.ListN.{length, take}
 use Rattle.rules.specs.Reach.{Run, Piece}
-use Rattle.rules.specs.Refusal.{Check, Passes, Fault}
-use Rattle.rules.specs.Verdict.{verdictChecks}
+use Rattle.rules.specs.Refusal.{Passes, Fault}
+use Rattle.rules.specs.Good.{pieceChecks}
+use Rattle.rules.specs.Verdict.{Verdict, verdictChecks, answer}
 use Rattle.refusal.specs.Said.{said}
-use Rattle.refusal.specs.declared.Checked.{Checked}
-use Rattle.refusal.specs.declared.Checked.the-variants.{Good, Refused}
-use Rattle.block.specs.Layout.{byte, blockOf}
+use Rattle.block.specs.Layout.{byte, blockOf, pieceBody}
+use Rattle.book.specs.declared.Asked.{Asked}
+use Rattle.book.specs.declared.Asked.the-variants.{Remembered, Worked, Refused}
 use Rattle.book.specs.declared.slot.Found.{Found}
 use Rattle.book.specs.declared.slot.Found.the-variants.{Code, Nothing}
-use Rattle.book.specs.Entry.{question, four, Possible}
+use Rattle.book.specs.Entry.{question, four, Possible, put}
 
--- where the checks pass, the bytes from here on are replaced
-abbrev pub Lays : List Check → ℕ → List ℕ → List ℕ → List ℕ → Checked → Type 0
-Lays cs from bytes before after Good = Passes cs × (after ≡ take from before ++ (bytes ++ drop (from + length bytes) before))
-Lays cs from bytes before after (Refused x) = Fault cs (said x)
+-- the bytes of a piece, or it is no good piece
+abbrev pub Lays : Piece → List ℕ → Bool → Type 0
+Lays k body true = body ≡ pieceBody k
+Lays k body false = Passes (pieceChecks k) → ⊥
 
 -- the first bytes of an entry, its code to come
 pub record Begun (r : Run) (k : Piece) (front : List ℕ) : Type 0 where
   pub long : length front ≡ 287
   pub first : take 283 front ≡ 3 ∷ 0 ∷ question r k
 
-abbrev pub Begins : Run → Piece → List ℕ → Checked → Type 0
-Begins r k front Good = Passes (verdictChecks r k) × Begun r k front
-Begins r k front (Refused x) = Fault (verdictChecks r k) (said x)
-
--- r is the first of 283 bytes that differs, or 283
-pub record FirstOther (slot front : List ℕ) (r : ℕ) : Type 0 where
-  pub before : (i : ℕ) → i < r → i < 283 → byte slot i ≡ byte front i
-  pub found : r < 283 → byte slot r ≡ byte front r → ⊥
+abbrev pub Begins : Run → Piece → List ℕ → Bool → Type 0
+Begins r k front true = Begun r k front
+Begins r k front false = Passes (pieceChecks k) → ⊥
 
 -- bytes 283 to 286, low first
 abbrev pub Coded : List ℕ → ℕ → Type 0
@@ -46,3 +43,24 @@ pub record Sound (slot first : List ℕ) (r : Run) (c : ℕ) : Type 0 where
 abbrev pub Recalls : List ℕ → List ℕ → Run → Found → Type 0
 Recalls slot first r (Code c) = Sound slot first r c
 Recalls slot first r Nothing = (c : ℕ) → Sound slot first r c → ⊥
+
+-- only what was laid out is looked for
+abbrev pub Sought : Bool → List ℕ → List ℕ → Run → Found → Type 0
+Sought true slot first r f = Recalls slot first r f
+Sought false slot first r f = f ≡ Nothing
+
+-- slot i becomes the block of these first bytes and a code
+abbrev pub Keeps : List ℕ → List ℕ → ℕ → List ℕ → ℕ → Type 0
+Keeps book after i front c = after ≡ put book i (blockOf (take 283 front ++ four c))
+
+-- a good question is worked out and kept; another changes nothing
+pub record Worked-out (book after : List ℕ) (i : ℕ) (front : List ℕ) (r : Run) (k : Piece) (c : ℕ) : Type 0 where
+  pub passes : Passes (verdictChecks r k)
+  pub small : c < 4294967296
+  pub verdict : Verdict r k (answer c)
+  pub kept : Keeps book after i front c
+
+abbrev pub Works : List ℕ → List ℕ → ℕ → List ℕ → Run → Piece → Asked → Type 0
+Works book after i front r k (Remembered c) = ⊥
+Works book after i front r k (Worked c) = Worked-out book after i front r k c
+Works book after i front r k (Refused x) = Fault (verdictChecks r k) (said x) × (after ≡ book)

@@ -1,71 +1,62 @@
 // The first bytes of an entry: kind, zero, the question, and last the code.
-use block::write_piece;
-use block::write_run;
+use block::write_words;
 use piece::Band;
 use piece::Run;
 use refusal::Checked;
 ghost use mathlib.Core.Path.{_≡_};
-ghost use mathlib.Core.List.{_++_};
+ghost use mathlib.Core.List.{_∷_, _++_};
 ghost use Prim.Native.Nat.{_+_, _%_, _<_};
-ghost use lib.ListN.{length, take};
-ghost use Rattle.rules.specs.Good.{runChecks, pieceChecks};
+ghost use lib.ListN.{length, take, replicate};
+ghost use Rattle.rules.specs.Refusal.{Passes};
+ghost use Rattle.rules.specs.Good.{runChecks};
 ghost use Rattle.piece.specs.Numbers.{runOf, pieceOf};
-ghost use Rattle.block.specs.Layout.{byte, sum, runBody, pieceBody};
+ghost use Rattle.block.specs.Layout.{byte, sum, runBody};
 ghost use Rattle.book.specs.Entry.{four};
 ghost use Rattle.book.specs.Steps.{Lays, Begins};
 
-fn copy(from: &[u8], into: &mut [u8])
-    requires { ⌜ length (now from) ≡ length (now into) ⌝ }
-    ensures { λ _. ⌜ now (into .exit) ≡ now (from .entry) ⌝ }
+// Bytes 0 to 15: kind, zero, and the numbers as in the run block.
+fn lay_run(run: Run, head: &mut [u8])
+    requires { ⌜ Passes (runChecks (runOf run)) × (length (now head) ≡ 16) ⌝ }
+    ensures { λ _. ⌜ now (head .exit) ≡ 3 ∷ 0 ∷ runBody (runOf run) ⌝ }
 {
-    let mut i = 0;
-    while i < from.len() {
-        into[i] = from[i];
-        i += 1;
+    let ticks = run.ticks as i32;
+    let numbers = [run.x, run.y, run.z, run.vx, run.vy, run.vz, ticks];
+    head[0] = 3;
+    head[1] = 0;
+    write_words(&numbers, &mut head[2..16]);
+}
+
+// The piece block's bytes 1 to 267; false where its numbers or their count do not fit, as of no good piece.
+fn lay_piece(band: Band, corners: &[i32], body: &mut [u8]) -> bool
+    requires { ⌜ now body ≡ replicate 267 0 ⌝ }
+    ensures { λ r. ⌜ Lays (pieceOf band (now (corners .entry))) (now (body .exit)) r ⌝ }
+{
+    let size = corners.len();
+    if size % 2 != 0 {
+        return false;
+    }
+    if 128 < size {
+        return false;
+    }
+    let numbers = [band.bottom, band.top, band.vx, band.vy, band.vz];
+    let end = 11 + 2 * size;
+    body[0] = (size / 2) as u8;
+    if let Checked::Refused(_) = write_words(&numbers, &mut body[1..11]) {
+        return false;
+    }
+    match write_words(corners, &mut body[11..end]) {
+        Checked::Refused(_) => false,
+        Checked::Good => true,
     }
 }
 
-// Bytes 2 to 15, as in the run block.
-fn lay_run(run: Run, front: &mut [u8]) -> Checked
-    requires { ⌜ length (now front) ≡ 287 ⌝ }
-    ensures { λ r. ⌜ Lays (runChecks (runOf run)) 2 (runBody (runOf run)) (now (front .entry)) (now (front .exit)) r ⌝ }
-{
-    let mut block = [0u8; 512];
-    match write_run(run, &mut block) {
-        Checked::Refused(x) => Checked::Refused(x),
-        Checked::Good => {
-            copy(&block[2..16], &mut front[2..16]);
-            Checked::Good
-        }
-    }
-}
-
-// Bytes 16 to 282, the piece block's bytes 1 to 267.
-fn lay_piece(band: Band, corners: &[i32], front: &mut [u8]) -> Checked
-    requires { ⌜ length (now front) ≡ 287 ⌝ }
-    ensures { λ r. ⌜ Lays (pieceChecks (pieceOf band (now (corners .entry)))) 16 (pieceBody (pieceOf band (now (corners .entry)))) (now (front .entry)) (now (front .exit)) r ⌝ }
-{
-    let mut block = [0u8; 512];
-    match write_piece(band, corners, &mut block) {
-        Checked::Refused(x) => Checked::Refused(x),
-        Checked::Good => {
-            copy(&block[1..268], &mut front[16..283]);
-            Checked::Good
-        }
-    }
-}
-
-// All but the code. The run is checked before the piece.
-pub(crate) fn lay(run: Run, band: Band, corners: &[i32], front: &mut [u8]) -> Checked
-    requires { ⌜ length (now front) ≡ 287 ⌝ }
+// All but the code.
+pub(crate) fn lay(run: Run, band: Band, corners: &[i32], front: &mut [u8]) -> bool
+    requires { ⌜ Passes (runChecks (runOf run)) × (now front ≡ replicate 287 0) ⌝ }
     ensures { λ r. ⌜ Begins (runOf run) (pieceOf band (now (corners .entry))) (now (front .exit)) r ⌝ }
 {
-    front[0] = 3;
-    front[1] = 0;
-    match lay_run(run, front) {
-        Checked::Refused(x) => Checked::Refused(x),
-        Checked::Good => lay_piece(band, corners, front),
-    }
+    lay_run(run, &mut front[..16]);
+    lay_piece(band, corners, &mut front[16..283])
 }
 
 // The code, low byte first.

@@ -6,17 +6,26 @@ use crate::front::finish;
 use crate::front::home_of;
 use crate::front::lay;
 use crate::slot::Found;
-use crate::slot::look;
+use crate::slot::NONE;
+use crate::slot::seek;
 use crate::slot::store;
 use piece::Band;
 use piece::Run;
-use piece::code;
+use piece::Verdict;
+use piece::check_piece;
+use piece::check_run;
+use piece::verdict;
 use refusal::Checked;
 use refusal::Refusal;
+ghost use mathlib.Core.Path.{_≡_};
+ghost use Prim.Native.Nat.{suc, _*_, _≤_};
+ghost use lib.ListN.{length, replicate};
 ghost use Rattle.rules.specs.Refusal.{Passes};
+ghost use Rattle.rules.specs.Good.{runChecks};
 ghost use Rattle.piece.specs.Numbers.{runOf, pieceOf};
-ghost use Rattle.book.specs.Ask.{AskSays, askChecks};
-ghost use Rattle.book.specs.Steps.{Begun};
+ghost use Rattle.book.specs.Entry.{Slots};
+ghost use Rattle.book.specs.Ask.{AskSays};
+ghost use Rattle.book.specs.Steps.{Keeps, Works};
 
 // A verdict, coded as in an entry, that was remembered or worked out; or the refusal.
 pub enum Asked {
@@ -25,20 +34,53 @@ pub enum Asked {
     Refused(Refusal),
 }
 
-// The answer to a good question, whose first bytes are laid out.
+// A code that was worked out becomes the entry of its question.
+fn keep(book: &mut [u8], at: usize, front: &mut [u8], code: u32)
+    requires { ⌜ (512 * suc at ≤ length (now book)) × (length (now front) ≡ 287) ⌝ }
+    ensures { λ _. ⌜ Keeps (now (book .entry)) (now (book .exit)) at (now (front .entry)) code ⌝ }
+{
+    finish(front, code);
+    store(book, at, front);
+}
+
+// The verdict is worked out, and the piece checked, only once.
+fn work(
+    book: &mut [u8],
+    at: usize,
+    front: &mut [u8],
+    run: Run,
+    band: Band,
+    corners: &[i32],
+) -> Asked
+    requires { ⌜ (512 * suc at ≤ length (now book)) × (length (now front) ≡ 287) ⌝ }
+    ensures { λ r. ⌜ Works (now (book .entry)) (now (book .exit)) at (now (front .entry)) (runOf run) (pieceOf band (now (corners .entry))) r ⌝ }
+{
+    match verdict(run, band, corners) {
+        Verdict::Refused(x) => Asked::Refused(x),
+        Verdict::Clear => {
+            keep(book, at, front, NONE);
+            Asked::Worked(NONE)
+        }
+        Verdict::Mark(m) => {
+            keep(book, at, front, m);
+            Asked::Worked(m)
+        }
+    }
+}
+
+// A good run asks: what is remembered is answered only of a good piece.
 fn answer(book: &mut [u8], run: Run, band: Band, corners: &[i32], front: &mut [u8]) -> Asked
-    requires { ⌜ Passes (askChecks (now book) (runOf run) (pieceOf band (now corners))) × Begun (runOf run) (pieceOf band (now corners)) (now front) ⌝ }
+    requires { ⌜ Slots (now book) × (Passes (runChecks (runOf run)) × (now front ≡ replicate 287 0)) ⌝ }
     ensures { λ r. ⌜ AskSays (now (book .entry)) (now (book .exit)) (runOf run) (pieceOf band (now (corners .entry))) r ⌝ }
 {
+    let laid = lay(run, band, corners, front);
     let at = home_of(front, book.len() / 512);
-    match look(book, at, front, run) {
-        Found::Code(c) => Asked::Remembered(c),
-        Found::Nothing => {
-            let c = code(run, band, corners);
-            finish(front, c);
-            store(book, at, front);
-            Asked::Worked(c)
-        }
+    match seek(laid, book, at, front, run) {
+        Found::Nothing => work(book, at, front, run, band, corners),
+        Found::Code(c) => match check_piece(band, corners) {
+            Checked::Refused(x) => Asked::Refused(x),
+            Checked::Good => Asked::Remembered(c),
+        },
     }
 }
 
@@ -56,9 +98,9 @@ pub fn ask(book: &mut [u8], run: Run, band: Band, corners: &[i32]) -> Asked
     if 65536 < len {
         return Asked::Refused(Refusal::Length);
     }
-    let mut front = [0u8; 287];
-    match lay(run, band, corners, &mut front) {
-        Checked::Refused(x) => Asked::Refused(x),
-        Checked::Good => answer(book, run, band, corners, &mut front),
+    if let Checked::Refused(x) = check_run(run) {
+        return Asked::Refused(x);
     }
+    let mut front = [0u8; 287];
+    answer(book, run, band, corners, &mut front)
 }

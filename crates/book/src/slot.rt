@@ -1,20 +1,20 @@
 // One slot of a book: what it remembers, and its bytes replaced.
-use block::check_block;
+use crate::front::finish;
 use block::write_bytes;
 use piece::Run;
-use refusal::Checked;
 ghost use mathlib.Core.Path.{_≡_};
+ghost use mathlib.Core.List.{_++_};
 ghost use Prim.Native.Nat.{suc, _+_, _*_, _≤_};
 ghost use lib.ListN.{length, take};
 ghost use Rattle.rules.specs.Reach.{Ticks};
 ghost use Rattle.piece.specs.Numbers.{runOf};
+ghost use Rattle.piece.specs.Decide.{Decides};
 ghost use Rattle.block.specs.Layout.{blockOf, blockAt};
-ghost use Rattle.block.specs.Scan.{FirstByte};
-ghost use Rattle.book.specs.Entry.{put};
-ghost use Rattle.book.specs.Steps.{FirstOther, Coded, Recalls};
+ghost use Rattle.book.specs.Entry.{four, put};
+ghost use Rattle.book.specs.Steps.{Coded, Recalls, Sought};
 
 // Clear, as a verdict is coded.
-const NONE: u32 = 4294967295;
+pub(crate) const NONE: u32 = 4294967295;
 
 // What a slot remembers of a question.
 pub(crate) enum Found {
@@ -22,34 +22,20 @@ pub(crate) enum Found {
     Nothing,
 }
 
-// The first of bytes 0 to 282 that is not the question's.
-fn first_other(slot: &[u8], front: &[u8]) -> usize
-    requires { ⌜ (length (now slot) ≡ 512) × (length (now front) ≡ 287) ⌝ }
-    ensures { λ r. ⌜ FirstOther (now (slot .entry)) (now (front .entry)) r ⌝ }
+// Whether two lists are the same. No byte ends the loop early, so that it can go by many bytes at a time.
+fn alike(a: &[u8], b: &[u8]) -> bool
+    requires { ⌜ length (now a) ≡ length (now b) ⌝ }
+    ensures { λ r. ⌜ Decides (now (a .entry) ≡ now (b .entry)) r ⌝ }
 {
+    let mut other: u8 = 0;
     let mut i = 0;
-    while i < 283 {
-        if slot[i] != front[i] {
-            return i;
+    while i < a.len() {
+        if a[i] != b[i] {
+            other = 1;
         }
         i += 1;
     }
-    i
-}
-
-// The first of bytes 287 to 509 that is not zero.
-fn first_unnamed(slot: &[u8]) -> usize
-    requires { ⌜ length (now slot) ≡ 512 ⌝ }
-    ensures { λ r. ⌜ FirstByte (now (slot .entry)) 287 r ⌝ }
-{
-    let mut i = 287;
-    while i < 510 {
-        if slot[i] != 0 {
-            return i;
-        }
-        i += 1;
-    }
-    i
+    other == 0
 }
 
 fn number_of(a: u8, b: u8, c: u8, d: u8) -> u32
@@ -65,15 +51,23 @@ fn code_in(slot: &[u8]) -> u32
     number_of(slot[283], slot[284], slot[285], slot[286])
 }
 
-// Compared first, since most slots differ early; the check is worked out last.
-fn recall(slot: &[u8], front: &[u8], run: Run) -> Found
-    requires { ⌜ (length (now slot) ≡ 512) × ((length (now front) ≡ 287) × Ticks (run .ticks)) ⌝ }
-    ensures { λ r. ⌜ Recalls (now (slot .entry)) (take 283 (now (front .entry))) (runOf run) r ⌝ }
+// Whether the slot is the entry of this question and code, byte for byte.
+fn is_entry(slot: &[u8], front: &mut [u8], code: u32) -> bool
+    requires { ⌜ (length (now slot) ≡ 512) × (length (now front) ≡ 287) ⌝ }
+    ensures { λ r. ⌜ Decides (now (slot .entry) ≡ blockOf (take 283 (now (front .entry)) ++ four code)) r × (take 283 (now (front .exit)) ≡ take 283 (now (front .entry))) ⌝ }
 {
-    if first_other(slot, front) < 283 {
-        return Found::Nothing;
-    }
-    if first_unnamed(slot) < 510 {
+    let mut entry = [0u8; 512];
+    finish(front, code);
+    write_bytes(front, &mut entry);
+    alike(slot, &entry)
+}
+
+// The question is compared first, since most slots have another.
+fn recall(slot: &[u8], front: &mut [u8], run: Run) -> Found
+    requires { ⌜ (length (now slot) ≡ 512) × ((length (now front) ≡ 287) × Ticks (run .ticks)) ⌝ }
+    ensures { λ r. ⌜ Recalls (now (slot .entry)) (take 283 (now (front .entry))) (runOf run) r × (take 283 (now (front .exit)) ≡ take 283 (now (front .entry))) ⌝ }
+{
+    if !alike(&slot[..283], &front[..283]) {
         return Found::Nothing;
     }
     let code = code_in(slot);
@@ -82,19 +76,31 @@ fn recall(slot: &[u8], front: &[u8], run: Run) -> Found
             return Found::Nothing;
         }
     }
-    match check_block(slot) {
-        Checked::Refused(_) => Found::Nothing,
-        Checked::Good => Found::Code(code),
+    if is_entry(slot, front, code) {
+        Found::Code(code)
+    } else {
+        Found::Nothing
     }
 }
 
-pub(crate) fn look(book: &[u8], at: usize, front: &[u8], run: Run) -> Found
+fn look(book: &[u8], at: usize, front: &mut [u8], run: Run) -> Found
     requires { ⌜ (512 * suc at ≤ length (now book)) × ((length (now front) ≡ 287) × Ticks (run .ticks)) ⌝ }
-    ensures { λ r. ⌜ Recalls (blockAt (now (book .entry)) at) (take 283 (now (front .entry))) (runOf run) r ⌝ }
+    ensures { λ r. ⌜ Recalls (blockAt (now (book .entry)) at) (take 283 (now (front .entry))) (runOf run) r × (take 283 (now (front .exit)) ≡ take 283 (now (front .entry))) ⌝ }
 {
     let from = 512 * at;
     let to = from + 512;
     recall(&book[from..to], front, run)
+}
+
+// A question that is not laid out is not looked for.
+pub(crate) fn seek(laid: bool, book: &[u8], at: usize, front: &mut [u8], run: Run) -> Found
+    requires { ⌜ (512 * suc at ≤ length (now book)) × ((length (now front) ≡ 287) × Ticks (run .ticks)) ⌝ }
+    ensures { λ r. ⌜ Sought laid (blockAt (now (book .entry)) at) (take 283 (now (front .entry))) (runOf run) r × (take 283 (now (front .exit)) ≡ take 283 (now (front .entry))) ⌝ }
+{
+    if !laid {
+        return Found::Nothing;
+    }
+    look(book, at, front, run)
 }
 
 // The slot becomes the block of these first bytes.

@@ -15,7 +15,7 @@ use Rattle.rules.specs.Verdict.{clear, blocked, NONE}
 use Rattle.rules.proofs.Reach.{run-known}
 use Rattle.rules.proofs.Checks.{passes-append, passes-left, fault-left, fault-right}
 use Rattle.rules.proofs.Good.{sharp-run}
-use Rattle.rules.proofs.Verdict.{mark-most, mark-answers}
+use Rattle.rules.proofs.Verdict.{mark-small, mark-answers}
 use Rattle.refusal.specs.declared.Refusal.{Refusal}
 use Rattle.refusal.specs.declared.Refusal.the-variants.{Short}
 use Rattle.refusal.specs.Said.{said}
@@ -44,7 +44,7 @@ module _ (r : Run) (image : List ℕ) (i : ℕ) where
     piece = v .piece;
     block = v .same;
     good = v .good;
-    verdict = mark-answers r (v .piece) k (omega (arith, mark-most r (v .piece) k (v .verdict), run-known r (v .run) 6 (omega arith))) (v .verdict);
+    verdict = mark-answers r (v .piece) k (mark-small r (v .piece) k (run-known r (v .run) 6 (omega arith)) (v .verdict)) (v .verdict);
   }
 
   -- the run is good, so the block is refused

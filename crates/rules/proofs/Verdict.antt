@@ -10,7 +10,7 @@ use Rattle.whole.specs.Fraction.{mark, whole}
 use Rattle.whole.proofs.Fraction.{trans, less, lt-then-le, marks}
 use Rattle.whole.proofs.Order.{antisym}
 use Rattle.whole.proofs.Flag.{yes-of, lt-not-eq}
-use Rattle.rules.specs.Reach.{Run, Piece}
+use Rattle.rules.specs.Reach.{Ticks, Run, Piece}
 use Rattle.rules.specs.Verdict.{Answer, clear, blocked, NONE, answer, Mark, Verdict}
 
 no-earlier : (r : Run) (p : Piece) (j k : ℕ) → Mark r p j → Mark r p k → pos j ≤ℤ pos k
@@ -27,6 +27,10 @@ one-verdict r p (blocked j) (blocked k) f g = ap blocked (same j k (antisym _ _ 
 
 pub mark-most : (r : Run) (p : Piece) (k : ℕ) → Mark r p k → k ≤ 256 * r .ticks
 mark-most r p k f = let l = leb→le (k * 1) (r .ticks * 256) (trans (mark (pos k)) (f .when) (whole (pos (r .ticks))) (f .within .low) (f .moment .to) .le) in omega arith
+
+-- so no mark is the code of clear
+pub mark-small : (r : Run) (p : Piece) (k : ℕ) → Ticks (r .ticks) → Mark r p k → k < NONE
+mark-small r p k h m = omega (arith, mark-most r p k m)
 
 pub mark-answers : (r : Run) (p : Piece) (k : ℕ) → k < NONE → Mark r p k → Verdict r p (answer k)
 mark-answers r p k h m = rw (lt-not-eq k NONE h) m

@@ -4,11 +4,17 @@ use mathlib.Core.Logic.{inl, inr}
 use native.Mathlib.Omega.{arith}
 use borrow.Author.Needs.{needs}
 use denote.Ref.{now}
+use Rattle.rules.specs.Good.{runChecks}
 use Rattle.piece.specs.Numbers.{runOf, pieceOf}
+use Rattle.block.proofs.Found.{found-good, found-bad}
+use Rattle.book.specs.Entry.{Slots}
 use Rattle.book.specs.Ask.{askChecks}
-use Rattle.book.proofs.Lay.{begins-good, begins-bad}
+use Rattle.book.proofs.Found.{run-faulty}
 use Rattle.book.proofs.ask.Statement.{statement}
 use Rattle.book.proofs.ask.Tie as tie
+
+whole : (c : tie.Else3) → Slots (now (c .before .before .before .before .args .book))
+whole c = record { whole = c .before .before .if1 .left; above = c .before .if2 .left; below = c .if3 .left }
 
 returns : tie.Need-returns
 unfolding askChecks
@@ -22,14 +28,17 @@ returns-3 : tie.Need-returns-3
 unfolding askChecks
 returns-3 c = (inl (λ s. let l = s .below in omega arith, refl), refl)
 
-slice-aggregate-lay : tie.Need-slice-aggregate-lay
-slice-aggregate-lay c = search needs
-
-lay-requires : tie.Need-lay-requires
-lay-requires c κs = search needs
+check-run-requires : tie.Need-check-run-requires
+check-run-requires c κs = search needs
 
 enum-known-x : tie.Need-enum-known-x
 enum-known-x c = search needs
+
+returns-4 : tie.Need-returns-4
+unfolding askChecks
+returns-4 c =
+    let a = c .before .before .before .before .before .before .before .before .args in let r = runOf (a .run) in
+    (inr (whole (c .before .before .before .before), run-faulty r (pieceOf (a .band) (now (a .corners))) _ (found-bad (runChecks r) _ _ (c .before .before .before .check-run .ensures) (c .before .x .given .1))), refl)
 
 enum-told : tie.Need-enum-told
 enum-told c = search needs
@@ -38,22 +47,9 @@ slice-aggregate-answer : tie.Need-slice-aggregate-answer
 slice-aggregate-answer c = search needs
 
 answer-requires : tie.Need-answer-requires
-unfolding askChecks
 answer-requires c κs =
-    let a = c .before .before .before .before .before .before .before .before .before .before .before .args in let w = c .before .before .before .before .before .lay in
-    let g = begins-good (runOf (a .run)) (pieceOf (a .band) (now (a .corners))) (w .last .1 .1 .1 .0) (w .result) (w .ensures) (c .before .before .enum-told .given .1) in
-    ((record { whole = c .before .before .before .before .before .before .before .before .before .if1 .left; above = c .before .before .before .before .before .before .before .before .if2 .left; below = c .before .before .before .before .before .before .before .if3 .left }, g .0), g .1)
-
-returns-4 : tie.Need-returns-4
-unfolding askChecks
-returns-4 c =
-    let a = c .before .before .before .before .before .before .before .before .before .before .args in let w = c .before .before .before .before .lay in let x = c .before .x .given in (
-      inr (
-        record { whole = c .before .before .before .before .before .before .before .before .if1 .left; above = c .before .before .before .before .before .before .before .if2 .left; below = c .before .before .before .before .before .before .if3 .left },
-        begins-bad (runOf (a .run)) (pieceOf (a .band) (now (a .corners))) (w .last .1 .1 .1 .0) (w .result) (w .ensures) (x .0 .0) (x .1),
-      ),
-      refl,
-    )
+    let a = c .before .before .before .before .before .before .before .before .before .args in
+    (whole (c .before .before .before .before .before), (found-good (runChecks (runOf (a .run))) _ (c .before .before .before .before .check-run .ensures) (c .before .before .enum-told .given .1), refl))
 
 same-length : tie.Need-same-length
 same-length c = search needs
@@ -68,12 +64,11 @@ ask-spec =
     returns
     returns-2
     returns-3
-    slice-aggregate-lay
-    lay-requires
+    check-run-requires
     enum-known-x
+    returns-4
     enum-told
     slice-aggregate-answer
     answer-requires
-    returns-4
     same-length
     returns-5)

@@ -1,87 +1,92 @@
--- `book::front::lay_run` meets its contract. Assumes nothing.
-use mathlib.Core.Path.{refl, ap, _∙_}
-use mathlib.Core.List.{List}
+-- `book::front::lay_run` meets its contract: a good run's numbers are what two bytes hold. Assumes nothing.
+use mathlib.Core.Path.{_≡_, sym, ap, subst, _∙_}
+use mathlib.Core.List.{List, _∷_}
 use Prim.Native.Nat.{ℕ}
+use native.Mathlib.Omega.{arith}
 use borrow.Author.Needs.{needs}
-use lib.ListN.{take, drop, replicate}
+use lib.ListN.{length, set, take, drop, length-set}
+use lib.Seq.{take-all}
 use denote.Ref.{now}
-use Rattle.rules.specs.Good.{runChecks}
-use Rattle.refusal.specs.Said.{said}
+use Rattle.rules.specs.Refusal.{Passes}
 use Rattle.piece.specs.Numbers.{runOf}
-use Rattle.block.specs.Layout.{runBody, runBlock}
-use Rattle.block.proofs.Bodies.{run-body, run-body-length}
-use Rattle.block.specs.Reading.{runAsked}
-use Rattle.book.proofs.Lay.{wrote, faulty, past-length, laid}
+use Rattle.block.specs.Layout.{words, runNumbers, runBody}
+use Rattle.block.specs.Reading.{wordsAsked}
+use Rattle.block.proofs.Parts.{mid, part-length, two-length, two-then}
+use Rattle.block.proofs.RunLaws.{good-ticks, good-word, machine, read-run}
+use Rattle.block.proofs.Sharp.{sharp-words-asked}
+use Rattle.book.proofs.Lay.{written}
 use Rattle.book.proofs.front.lay_run.Statement.{statement}
 use Rattle.book.proofs.front.lay_run.Tie as tie
 
-abbrev zeros : List ℕ
-zeros = replicate 512 0
+cast-ticks : tie.Need-cast-ticks
+cast-ticks c = let h = good-ticks _ (c .before .before .pre .0) in record { sfits = omega arith }
 
-slice-aggregate-write-run : tie.Need-slice-aggregate-write-run
-slice-aggregate-write-run c = search needs
+slice-write-head : tie.Need-slice-write-head
+slice-write-head c = search needs
 
-write-run-requires : tie.Need-write-run-requires
-write-run-requires c κs = search needs
+slice-write-head-2 : tie.Need-slice-write-head-2
+slice-write-head-2 c = search needs
 
-enum-known-x : tie.Need-enum-known-x
-enum-known-x c = search needs
+slice-aggregate-write-words : tie.Need-slice-aggregate-write-words
+slice-aggregate-write-words c = search needs
 
-enum-told : tie.Need-enum-told
-enum-told c = search needs
+sub-write-words : tie.Need-sub-write-words
+sub-write-words c = search needs
 
-sub-copy : tie.Need-sub-copy
-sub-copy c = search needs
+part-write-words-start : tie.Need-part-write-words-start
+part-write-words-start c = search needs
 
-part-copy-start : tie.Need-part-copy-start
-part-copy-start c = search needs
+part-write-words-end : tie.Need-part-write-words-end
+part-write-words-end c = simp length-set (omega (arith, c .before .before .before .before .pre))
 
-part-copy-end : tie.Need-part-copy-end
-part-copy-end c = search needs
+write-words-requires : tie.Need-write-words-requires
+write-words-requires c κs = search needs
 
-sub-copy-2 : tie.Need-sub-copy-2
-sub-copy-2 c = search needs
+same : (c : tie.After-write-words) → machine (c .before .before .before .before .before .before .args .run) ≡ runNumbers (runOf (c .before .before .before .before .before .before .args .run))
+same c =
+    let b = c .before .before .before .before .before .before in
+    read-run (b .args .run)
+    (record { sfits = omega arith })
+    (record { sfits = omega arith })
+    (record { sfits = omega arith })
+    (record { sfits = omega arith })
+    (record { sfits = omega arith })
+    (record { sfits = omega arith })
+    (good-ticks (runOf (b .args .run)) (b .pre .0))
 
-part-copy-start-2 : tie.Need-part-copy-start-2
-part-copy-start-2 c = search needs
-
-part-copy-end-2 : tie.Need-part-copy-end-2
-part-copy-end-2 c = search needs
-
-copy-requires : tie.Need-copy-requires
-copy-requires c κs = search needs
-
-returns : tie.Need-returns
-unfolding runAsked
-returns c =
-    let b = c .before .before .before .before .before .before .before in let a = b .args in let r = runOf (a .run) in let w = c .before .before .before .before .write-run in
-    past-length zeros (runChecks r) (said (c .before .x .given .0 .0)) refl (faulty (runAsked zeros r) (runBlock r) zeros (w .last .1 .0) (w .result) (w .ensures) (c .before .x .given .0 .0) (c .before .x .given .1))
+-- the bytes that were laid
+laid : (c : tie.After-write-words) → c .write-words .last .1 .0 ≡ words (runNumbers (runOf (c .before .before .before .before .before .before .args .run)))
+unfolding wordsAsked
+laid c =
+    let b = c .before .before .before .before .before .before in let r = runOf (b .args .run) in let w = c .write-words in
+    let part = take 14 (drop 2 (set (set (now (b .args .head)) 0 3) 1 0)) in
+    written (wordsAsked part (machine (b .args .run))) (sharp-words-asked part (machine (b .args .run))) (words (machine (b .args .run))) part (w .last .1 .0) (w .result) (w .ensures)
+    (subst (λ zs. Passes (wordsAsked part zs)) (sym (same c)) (part-length (set (set (now (b .args .head)) 0 3) 1 0) 2 14 (simp length-set (omega (arith, b .pre))), (λ j h f. f (good-word r (b .pre .0) j), tt)))
+    ∙ ap words (same c)
 
 same-length : tie.Need-same-length
-same-length c = search needs
+same-length c = let b = c .before .before .before .before .before .before .before .before in two-length (now (b .args .head)) (c .before .before .write-words .last .1 .0) 3 0 14 (omega (arith, b .pre)) (ap length (laid (c .before .before)))
 
-returns-2 : tie.Need-returns-2
-unfolding runAsked
-returns-2 c =
-    let b = c .before .before .before .before .before .before .before .before .before .before .before .before in let a = b .args in let r = runOf (a .run) in let w = c .before .before .before .before .before .before .before .before .before .write-run in
-    let g = wrote (runAsked zeros r) (runBlock r) zeros (w .last .1 .0) (w .result) (w .ensures) (c .before .before .before .before .before .before .enum-told .given .1) in
-    (g .0 .1, laid (now (a .front)) (runBody r) (c .before .before .copy .last .1 .0) 2 14 (run-body-length r) (c .before .before .copy .ensures ∙ ap (λ (l : List ℕ). take 14 (drop 2 l)) (g .1) ∙ run-body r))
+returns : tie.Need-returns
+unfolding runBody
+returns c =
+    let b = c .before .before .before .before .before .before .before .before in let ys = c .before .before .write-words .last .1 .0 in
+    let e = ap length (laid (c .before .before)) in
+    sym (take-all 16 (mid 2 14 (set (set (now (b .args .head)) 0 3) 1 0) ys) (omega (arith, two-length (now (b .args .head)) ys 3 0 14 (omega (arith, b .pre)) e, b .pre)))
+    ∙ two-then (now (b .args .head)) ys 3 0 14 (omega (arith, b .pre)) e
+    ∙ ap (λ (l : List ℕ). 3 ∷ 0 ∷ l) (laid (c .before .before))
 
 pub lay-run-spec : {M : Type 1} → statement M
 lay-run-spec =
     tie.close
     (tie.spec
-    slice-aggregate-write-run
-    write-run-requires
-    enum-known-x
-    enum-told
-    sub-copy
-    part-copy-start
-    part-copy-end
-    sub-copy-2
-    part-copy-start-2
-    part-copy-end-2
-    copy-requires
-    returns
+    cast-ticks
+    slice-write-head
+    slice-write-head-2
+    slice-aggregate-write-words
+    sub-write-words
+    part-write-words-start
+    part-write-words-end
+    write-words-requires
     same-length
-    returns-2)
+    returns)

@@ -6,7 +6,9 @@ use lib.ListN.{length, take, drop}
 use denote.Ref.{now}
 use Rattle.block.specs.Layout.{blockOf}
 use Rattle.book.proofs.Slots.{slot-length, part-slot, part-put}
-use Rattle.book.proofs.Look.{written}
+use Rattle.block.specs.Reading.{bytesAsked}
+use Rattle.block.proofs.Sharp.{sharp-bytes-asked}
+use Rattle.book.proofs.Lay.{written}
 use Rattle.book.proofs.slot.store.Statement.{statement}
 use Rattle.book.proofs.slot.store.Tie as tie
 
@@ -32,10 +34,11 @@ same-length : tie.Need-same-length
 same-length c = search needs
 
 returns : tie.Need-returns
+unfolding bytesAsked
 returns c =
     let b = c .before .before .before .before .before .before in let l = now (b .args .book) in let f = now (b .args .front) in let i = b .args .at in let w = c .before .before .write-bytes in
     part-put l i (w .last .1 .0) (blockOf f)
-    (written (take (512 * i + 512 - 512 * i) (drop (512 * i) l)) f (w .last .1 .0) (w .result) (ap length (part-slot l i) ∙ slot-length l i (b .pre .0)) (b .pre .1) (w .ensures))
+    (let p = take (512 * i + 512 - 512 * i) (drop (512 * i) l) in written (bytesAsked p f) (sharp-bytes-asked p f) (blockOf f) p (w .last .1 .0) (w .result) (w .ensures) (ap length (part-slot l i) ∙ slot-length l i (b .pre .0), (b .pre .1, tt)))
 
 pub store-spec : {M : Type 1} → statement M
 store-spec =
