@@ -14,7 +14,7 @@ use lib.Ieee.Back.{round-whole}
 use Rattle.whole.specs.Fraction.{Frac, whole}
 use Rattle.whole.proofs.Difference.{ring}
 use Rattle.intake.specs.Number.{signed, value, Is, grid, Within, Export}
-use Rattle.intake.proofs.Value.{minus-⊖, signed-mul, size-within}
+use Rattle.intake.proofs.Value.{signed-mul, size-within}
 use Rattle.intake.proofs.Bits.{one-value}
 
 -- ---- what fits binary32: fewer than 25 digits, and no unit below 2^-149

@@ -1,6 +1,7 @@
 pub mod Value
 pub mod Bits
 pub mod Exact
+pub mod Raised
 pub mod Whole
 pub mod Number
 pub mod Once

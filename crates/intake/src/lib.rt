@@ -20,14 +20,15 @@ pub enum Taken {
     Beyond,
 }
 
-// The whole number at or below a scaled number: what is cut off toward zero is put back below it.
+// The whole number at or below a scaled number. From 2^23 to 2^24 binary32 has the whole numbers only, so the sum is rounded to one next to it.
 fn floor(scaled: f32) -> i32
     requires { ⌜ Scaled scaled ⌝ }
     ensures { λ r. ⌜ Floored scaled r ⌝ }
 {
-    let toward = std::num::truncating_f32_to_i64(scaled) as i32;
-    let back = toward as f32;
-    if back > scaled { toward - 1 } else { toward }
+    let raised = scaled + 12582912.0;
+    let next = raised as i32 - 12582912;
+    let back = next as f32;
+    if back > scaled { next - 1 } else { next }
 }
 
 // One number. Within reach, sixteen times it is exact.
