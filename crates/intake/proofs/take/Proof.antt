@@ -1,15 +1,17 @@
 -- `intake::take` meets its contract: each way out says what the tests before it showed. Assumes nothing.
-use mathlib.Core.Path.{_≡_}
+use mathlib.Core.Path.{_≡_, sym, subst}
 use lib.Dec.{T}
-use lib.Ieee.{ofBits, neg, fits, binary32, mul}
-use lib.IntN.{natAbs}
+use lib.Ieee.{ofBits, neg, fits, binary32, mul, ofInt}
+use lib.IntN.{ℤ, natAbs}
 use Prim.Native.Nat.{_≤_}
 use mir.Val.{toZ, ofZ}
 use Rattle.whole.proofs.Flag.{yes-of}
 use mir.Syntax.{w32}
 use Rattle.whole.proofs.Range.{field}
+use Rattle.intake.specs.declared.Taken.the-variants.{OffGrid}
+use Rattle.intake.specs.Number.{Answer}
 use Rattle.intake.proofs.Whole.{in-float}
-use Rattle.intake.proofs.Number.{Inside, inside, not-number, below-reach, above-reach, scaled-in, sixteen, floor-small, on-grid, off-grid}
+use Rattle.intake.proofs.Number.{Inside, inside, not-number, below-reach, above-reach, scaled-in, sixteen, sixteenth, floor-small, on-grid, off-grid}
 use Rattle.intake.proofs.take.Statement.{statement}
 use Rattle.intake.proofs.take.Tie as tie
 
@@ -60,7 +62,9 @@ returns-5 : tie.Need-returns-5
 unfolding ofBits
 returns-5 c =
     let s = c .before .before in
-    rw (seen s) (off-grid (s .floor .result) (s .before .before .before .before .args .x) (fit (s .before)) (reached (s .before)) (s .floor .ensures) (rw (seen s) at (c .if4 .left)))
+    let x = s .before .before .before .before .args .x in
+    subst (λ (k : ℤ). Answer x (OffGrid (mul binary32 (ofInt binary32 k) sixteenth))) (sym (seen s))
+    (off-grid (s .floor .result) x (fit (s .before)) (reached (s .before)) (s .floor .ensures) (rw (seen s) at (c .if4 .left)))
 
 pub take-spec : {M : Type 1} → statement M
 take-spec =
