@@ -2,4 +2,5 @@ pub mod Codes
 pub mod Back
 pub mod Listed
 pub mod Pairs
+pub mod Readable
 pub mod Unique

@@ -1,4 +1,5 @@
 pub mod Coded
+pub mod Told
 pub mod Given
 pub mod Listed
 pub mod Export
