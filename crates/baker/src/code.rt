@@ -19,26 +19,35 @@ fn packed(number: u64, block: u64, a: u64, b: u64) -> u64
     middle + a % 0x1_0000 * 0x1_0000 + b % 0x1_0000
 }
 
+// A refusal's number, and its two places.
+struct Fields(usize, usize, usize);
+
+fn fields_of(x: Refusal) -> Fields
+    ensures { λ r. ⌜ (r .0 ≡ said x .number) × (r .1 ≡ said x .a) × (r .2 ≡ said x .b) ⌝ }
+{
+    match x {
+        Refusal::Length => Fields(1, 0, 0),
+        Refusal::Check => Fields(2, 0, 0),
+        Refusal::Kind(a) => Fields(3, a, 0),
+        Refusal::Reach(a) => Fields(4, a, 0),
+        Refusal::Corners => Fields(5, 0, 0),
+        Refusal::Same(a) => Fields(6, a, 0),
+        Refusal::Fold(a) => Fields(7, a, 0),
+        Refusal::Meet(a, b) => Fields(8, a, b),
+        Refusal::Clockwise => Fields(9, 0, 0),
+        Refusal::Short => Fields(10, 0, 0),
+        Refusal::NotNumber(a, b) => Fields(11, a, b),
+        Refusal::Beyond(a, b) => Fields(12, a, b),
+        Refusal::OffGrid(a, b) => Fields(13, a, b),
+    }
+}
+
 // A refusal in a block of a room.
 pub(crate) fn refusal_in(x: Refusal, block: usize) -> u64
     ensures { λ r. ⌜ r ≡ refusalCode (saidIn x block) ⌝ }
 {
-    let n = block as u64;
-    match x {
-        Refusal::Length => packed(1, n, 0, 0),
-        Refusal::Check => packed(2, n, 0, 0),
-        Refusal::Kind(a) => packed(3, n, a as u64, 0),
-        Refusal::Reach(a) => packed(4, n, a as u64, 0),
-        Refusal::Corners => packed(5, n, 0, 0),
-        Refusal::Same(a) => packed(6, n, a as u64, 0),
-        Refusal::Fold(a) => packed(7, n, a as u64, 0),
-        Refusal::Meet(a, b) => packed(8, n, a as u64, b as u64),
-        Refusal::Clockwise => packed(9, n, 0, 0),
-        Refusal::Short => packed(10, n, 0, 0),
-        Refusal::NotNumber(a, b) => packed(11, n, a as u64, b as u64),
-        Refusal::Beyond(a, b) => packed(12, n, a as u64, b as u64),
-        Refusal::OffGrid(a, b) => packed(13, n, a as u64, b as u64),
-    }
+    let s = fields_of(x);
+    packed(s.0 as u64, block as u64, s.1 as u64, s.2 as u64)
 }
 
 // Elsewhere its block is 0.
