@@ -7,6 +7,7 @@ use mir.Syntax.{w32}
 use mir.Val.{SFits, toZ, ofZ}
 use mir.Facts.{toZ-ofZ}
 use Rattle.piece.specs.Place.{pt}
+use Rattle.baker.specs.Coded.{Coded}
 use Rattle.baker.specs.Given.{run, piece}
 
 abbrev pub back : ℤ → ℤ
@@ -21,6 +22,6 @@ run-back {x} {y} {z} {u} {v} {w} {t} a b c d e f = λ i. run (toZ-ofZ a i) (toZ-
 pub piece-back : {b t u v w : ℤ} {l : List ℤ} → SFits w32 b → SFits w32 t → SFits w32 u → SFits w32 v → SFits w32 w → piece (back b) (back t) (back u) (back v) (back w) l ≡ piece b t u v w l
 piece-back {b} {t} {u} {v} {w} {l} c d e f g = λ i. piece (toZ-ofZ c i) (toZ-ofZ d i) (toZ-ofZ e i) (toZ-ofZ f i) (toZ-ofZ g i) l
 
--- what is said of two values, said of two equal ones
-pub both : {A B : Type 0} (P : A → B → Type 0) {r s : A} {k l : B} → r ≡ s → k ≡ l → P r k → P s l
-both P {r} {s} {k} {l} e f h = subst (P s) f (subst (λ r. P r k) e h)
+-- what codes the answer to numbers that were read back codes the answer to the numbers
+pub coded-back : {K A B : Type 0} (S : K → A → Type 0) (f : A → B) {k l : K} (x : A) {c : B} → k ≡ l → S k x → c ≡ f x → Coded (S l) f c
+coded-back S f x e h q = record { answer = x; says = subst (λ k. S k x) e h; code = q }

@@ -1,6 +1,5 @@
 -- Numbers put into a lent list from its begin. Assumes nothing.
 use mathlib.Core.Path.{_≡_, refl, ap, _∙_}
-use mathlib.Core.Bool.{Bool, cond}
 use mathlib.Core.List.{List, _++_}
 use Prim.Native.Nat.{ℕ, _*_, _-_, _≤_, _<_}
 use native.Mathlib.Nat.{zero-add}
@@ -22,10 +21,10 @@ use Rattle.baker.specs.Listed.{out, kept, listed, Holds}
 
 module _ (least : ℕ) (before : List ℤ) (c : ℕ) (l : List ℤ) where
   pub long : least ≤ length before → listed least before c l ≡ out c (l ++ drop (length l) before)
-  long h = ap (λ (t : Bool). cond t (out c (l ++ drop (length l) before)) (kept before (refuse 10 0 0))) (le-leb least (length before) h)
+  long h = rw (le-leb least (length before) h)
 
   pub short : length before < least → listed least before c l ≡ kept before (refuse 10 0 0)
-  short h = ap (λ (t : Bool). cond t (out c (l ++ drop (length l) before)) (kept before (refuse 10 0 0))) (lt-leb least (length before) h)
+  short h = rw (lt-leb least (length before) h)
 
 -- one part
 pub laid : (before l : List ℤ) → paste before 0 l (length l) ≡ l ++ drop (length l) before

@@ -40,7 +40,7 @@ next i = omega arith
 next-one : (i : ℕ) → 2 * suc i + 1 ≡ suc (suc (2 * i + 1))
 next-one i = omega arith
 
-pub corners-at : (xs : List Float) (i : ℕ) → 2 * i + 1 < length xs → cornerAt (corners xs) i ≡ at xs i
+corners-at : (xs : List Float) (i : ℕ) → 2 * i + 1 < length xs → cornerAt (corners xs) i ≡ at xs i
 corners-at [] i h = absurd (omega arith)
 corners-at (x ∷ []) i h = absurd (omega arith)
 corners-at (x ∷ (y ∷ l)) zero h = refl
@@ -60,7 +60,7 @@ module _ (cs ds : List Corner) (n : ℕ) (same : (i : ℕ) → i < n → cornerA
       (record { x = λ i h. subst (λ (c : Corner). Answer (c .x) (Grid (getD later (2 * i) (pos 0)))) (same i h) (f .0 .x i h); y = λ i h. subst (λ (c : Corner). Answer (c .y) (Grid (getD later (2 * i + 1) (pos 0)))) (same i h) (f .0 .y i h) }, f .1)
   later-same before (Refused x) later f = f
 
-  pub intake-same : (before : List ℤ) (r : Checked) (later : List ℤ) → Intake cs n before r later → Intake ds n before r later
+  intake-same : (before : List ℤ) (r : Checked) (later : List ℤ) → Intake cs n before r later → Intake ds n before r later
   unfolding intakeChecks
   intake-same before r later f = record { finds = subst (λ (k : List Check). Finds (demand (Corners n) (refuse 5 0 0) ∷ demand (2 * n ≤ length before) (refuse 10 0 0) ∷ k) r) (checks-same n (omega arith)) (f .finds); list = later-same before r later (f .list) }
 

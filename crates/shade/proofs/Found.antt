@@ -1,8 +1,8 @@
 -- What the run and the room were found to be decides which text answers. Assumes nothing.
 use mathlib.Core.Path.{_≡_, sym, ap, _∙_, subst}
-use mathlib.Core.Logic.{_⊎_, inl, inr, ⊎-elim}
+use mathlib.Core.Logic.{inl, inr, ⊎-elim}
 use mathlib.Core.List.{List, [], _∷_, _++_}
-use Prim.Native.Nat.{ℕ, _+_, _-_, _≤_}
+use Prim.Native.Nat.{ℕ, _-_, _≤_}
 use native.Mathlib.Omega.{arith}
 use lib.ListN.{length, take, drop, length-take, length-drop}
 use lib.Seq.{getD-take, take-all}
@@ -20,12 +20,12 @@ use Rattle.shade.specs.Text.{page, lengthChecks, roomPart, Page}
 
 -- ---- checks in a row
 -- where the first pass, the fault is among the others
-pub fault-beyond : (cs ds : List Check) → AllSharp cs → (x : Refusal) → Passes cs → Fault (cs ++ ds) x → Fault ds x
+fault-beyond : (cs ds : List Check) → AllSharp cs → (x : Refusal) → Passes cs → Fault (cs ++ ds) x → Fault ds x
 fault-beyond [] ds a x p f = f
 fault-beyond (c ∷ cs) ds a x p f = ⊎-elim (λ h. absurd (a .0 .never x (p .0) h)) (λ h. fault-beyond cs ds (a .1) x (p .1) (h .1)) f
 
 -- where the others find none, the fault is among the first
-pub fault-within : (cs ds : List Check) (x : Refusal) → (Passes cs → Fault ds x → ⊥) → Fault (cs ++ ds) x → Fault cs x
+fault-within : (cs ds : List Check) (x : Refusal) → (Passes cs → Fault ds x → ⊥) → Fault (cs ++ ds) x → Fault cs x
 fault-within [] ds x n f = n tt f
 fault-within (c ∷ cs) ds x n f = ⊎-elim (λ h. inl h) (λ h. inr (h .0, fault-within cs ds x (λ p g. n (h .0, p) g) (h .1))) f
 
@@ -39,7 +39,7 @@ head-byte : (image : List ℕ) → byte (blockAt image 0) 5 ≡ count image
 unfolding blockAt
 head-byte image = getD-take 512 image 5 0 (omega arith)
 
-pub few-pieces : (image : List ℕ) → Passes (roomChecks image) → Pieces (count image)
+few-pieces : (image : List ℕ) → Passes (roomChecks image) → Pieces (count image)
 unfolding roomChecks headChecks headerChecks blockChecks headerBytes
 few-pieces image p = subst (λ n. n ≤ 126) (head-byte image) (p .1 .1 .1 .1 .1 .0)
 

@@ -1,5 +1,5 @@
 -- `baker_read_run` meets its contract. Assumes nothing.
-use mathlib.Core.Path.{sym, ap, subst, _∙_}
+use mathlib.Core.Path.{ap, subst}
 use Prim.Native.Nat.{ℕ}
 use denote.Ref.{now}
 use Rattle.piece.specs.Numbers.{runOf}
@@ -7,6 +7,7 @@ use Rattle.block.specs.declared.RunRead.the-variants.{Found}
 use Rattle.block.specs.Reading.{RunSays}
 use Rattle.block.proofs.RunLaws.{good-ticks}
 use Rattle.baker.specs.Listed.{out, runListed}
+use Rattle.baker.proofs.Codes.{by}
 use borrow.Author.Needs.{needs}
 use Rattle.baker.proofs.blocks.baker_read_run.Statement.{statement}
 use Rattle.baker.proofs.blocks.baker_read_run.Tie as tie
@@ -37,7 +38,7 @@ returns c =
     record {
       answer = k .result;
       says = k .ensures;
-      code = ap (λ (n : ℕ). out n b) (c .refusal .ensures) ∙ sym (ap (runListed b) (c .before .before .x .given .1));
+      code = by (runListed b) (c .before .before .x .given .1) (ap (λ (n : ℕ). out n b) (c .refusal .ensures));
     }
 
 same-length : tie.Need-same-length

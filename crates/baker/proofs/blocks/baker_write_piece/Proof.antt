@@ -1,10 +1,10 @@
 -- `baker_write_piece` meets its contract. Assumes nothing.
-use mathlib.Core.Path.{subst}
 use denote.Ref.{now}
 use Rattle.rules.specs.Reach.{Piece}
 use Rattle.block.specs.Layout.{pieceBlock}
 use Rattle.block.specs.Reading.{pieceAsked, Writes}
-use Rattle.baker.proofs.Back.{piece-back}
+use Rattle.baker.specs.Coded.{checkedCode}
+use Rattle.baker.proofs.Back.{piece-back, coded-back}
 use borrow.Author.Needs.{needs}
 use Rattle.baker.proofs.blocks.baker_write_piece.Statement.{statement}
 use Rattle.baker.proofs.blocks.baker_write_piece.Tie as tie
@@ -23,11 +23,8 @@ returns c =
     let w = c .before .before .before in
     let s = w .before .before .before in
     let f = s .fits in
-    record {
-      answer = w .write-piece .result;
-      says = subst (λ (k : Piece). Writes (pieceAsked (now (s .args .block)) k) (pieceBlock k) (now (s .args .block)) (w .write-piece .last .1 .1 .0) (w .write-piece .result)) (piece-back (f .bottom) (f .top) (f .vx) (f .vy) (f .vz)) (w .write-piece .ensures);
-      code = c .checked .ensures;
-    }
+    let before = now (s .args .block) in
+    coded-back (λ (k : Piece). Writes (pieceAsked before k) (pieceBlock k) before (w .write-piece .last .1 .1 .0)) checkedCode (w .write-piece .result) (piece-back (f .bottom) (f .top) (f .vx) (f .vy) (f .vz)) (w .write-piece .ensures) (c .checked .ensures)
 
 pub baker-write-piece-spec : {M : Type 1} → statement M
 baker-write-piece-spec =

@@ -1,10 +1,10 @@
 -- `baker_write_run` meets its contract. Assumes nothing.
-use mathlib.Core.Path.{subst}
 use denote.Ref.{now}
 use Rattle.rules.specs.Reach.{Run}
 use Rattle.block.specs.Layout.{runBlock}
 use Rattle.block.specs.Reading.{runAsked, Writes}
-use Rattle.baker.proofs.Back.{run-back}
+use Rattle.baker.specs.Coded.{checkedCode}
+use Rattle.baker.proofs.Back.{run-back, coded-back}
 use borrow.Author.Needs.{needs}
 use Rattle.baker.proofs.blocks.baker_write_run.Statement.{statement}
 use Rattle.baker.proofs.blocks.baker_write_run.Tie as tie
@@ -23,11 +23,8 @@ returns c =
     let w = c .before .before .before in
     let s = w .before .before .before in
     let f = s .fits in
-    record {
-      answer = w .write-run .result;
-      says = subst (λ (r : Run). Writes (runAsked (now (s .args .block)) r) (runBlock r) (now (s .args .block)) (w .write-run .last .1 .0) (w .write-run .result)) (run-back (f .x) (f .y) (f .z) (f .vx) (f .vy) (f .vz)) (w .write-run .ensures);
-      code = c .checked .ensures;
-    }
+    let before = now (s .args .block) in
+    coded-back (λ (r : Run). Writes (runAsked before r) (runBlock r) before (w .write-run .last .1 .0)) checkedCode (w .write-run .result) (run-back (f .x) (f .y) (f .z) (f .vx) (f .vy) (f .vz)) (w .write-run .ensures) (c .checked .ensures)
 
 pub baker-write-run-spec : {M : Type 1} → statement M
 baker-write-run-spec = tie.close (tie.spec write-run-requires checked-requires same-length returns)

@@ -15,6 +15,7 @@ use Rattle.block.specs.Layout.{pieceNumbers}
 use Rattle.block.specs.declared.PieceRead.{PieceRead}
 use Rattle.baker.specs.Listed.{out, pieceFound}
 use Rattle.baker.proofs.Back.{back}
+use Rattle.baker.proofs.Codes.{by}
 use Rattle.baker.proofs.Listed.{long, short, laid-two}
 use borrow.Author.Needs.{needs}
 use Rattle.baker.proofs.list.put_piece.Statement.{statement}
@@ -44,7 +45,7 @@ returns : tie.Need-returns
 returns c =
     let s = c .before .before .before .before in
     let b = now (s .args .list) in
-    ap (λ (k : ℕ). out k b) (c .refusal .ensures) ∙ sym (ap (pieceFound b (s .args .read)) (c .before .before .found .given .1))
+    by (pieceFound b (s .args .read)) (c .before .before .found .given .1) (ap (λ (k : ℕ). out k b) (c .refusal .ensures))
 
 enum-told : tie.Need-enum-told
 enum-told c = search needs
@@ -57,7 +58,7 @@ returns-2 c =
     let s = c .before .before .before .before in
     let b = now (s .args .list) in
     let r = s .args .read in
-    ap (λ (k : ℕ). out k b) (c .refusal2 .ensures) ∙ sym (short 133 b (r .count) (numbers r) (c .before .if1 .taken)) ∙ sym (ap (pieceFound b r) (c .before .before .enum-told .given .1))
+    by (pieceFound b r) (c .before .before .enum-told .given .1) (ap (λ (k : ℕ). out k b) (c .refusal2 .ensures) ∙ sym (short 133 b (r .count) (numbers r) (c .before .if1 .taken)))
 
 slice-aggregate-put : tie.Need-slice-aggregate-put
 slice-aggregate-put c = search needs
@@ -87,9 +88,9 @@ returns-3 c =
     let s = e .before .before .before in
     let b = now (s .args .list) in
     let r = s .args .read in
-    ap (out (r .count)) (c .before .put2 .ensures ∙ ap (λ (l : List ℤ). paste l 5 (rest r) (length (rest r))) (q .put .ensures ∙ ap (λ (l : List ℤ). paste b 0 l 5) (same s)) ∙ laid-two b (five (r .band)) (rest r))
-    ∙ sym (long 133 b (r .count) (numbers r) (e .if1 .left))
-    ∙ sym (ap (pieceFound b r) (e .before .enum-told .given .1))
+    by (pieceFound b r) (e .before .enum-told .given .1)
+    (ap (out (r .count)) (c .before .put2 .ensures ∙ ap (λ (l : List ℤ). paste l 5 (rest r) (length (rest r))) (q .put .ensures ∙ ap (λ (l : List ℤ). paste b 0 l 5) (same s)) ∙ laid-two b (five (r .band)) (rest r))
+    ∙ sym (long 133 b (r .count) (numbers r) (e .if1 .left)))
 
 pub put-piece-spec : {M : Type 1} → statement M
 put-piece-spec =

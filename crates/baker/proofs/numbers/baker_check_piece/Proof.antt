@@ -1,9 +1,9 @@
 -- `baker_check_piece` meets its contract. Assumes nothing.
-use mathlib.Core.Path.{subst}
 use Rattle.rules.specs.Good.{pieceChecks}
 use Rattle.refusal.specs.Said.{Finds}
 use Rattle.rules.specs.Reach.{Piece}
-use Rattle.baker.proofs.Back.{piece-back}
+use Rattle.baker.specs.Coded.{checkedCode}
+use Rattle.baker.proofs.Back.{piece-back, coded-back}
 use borrow.Author.Needs.{needs}
 use Rattle.baker.proofs.numbers.baker_check_piece.Statement.{statement}
 use Rattle.baker.proofs.numbers.baker_check_piece.Tie as tie
@@ -17,11 +17,7 @@ checked-requires c κs = search needs
 returns : tie.Need-returns
 returns c =
     let f = c .before .before .fits in
-    record {
-      answer = c .before .check-piece .result;
-      says = subst (λ (k : Piece). Finds (pieceChecks k) (c .before .check-piece .result)) (piece-back (f .bottom) (f .top) (f .vx) (f .vy) (f .vz)) (c .before .check-piece .ensures);
-      code = c .checked .ensures;
-    }
+    coded-back (λ (k : Piece). Finds (pieceChecks k)) checkedCode (c .before .check-piece .result) (piece-back (f .bottom) (f .top) (f .vx) (f .vy) (f .vz)) (c .before .check-piece .ensures) (c .checked .ensures)
 
 pub baker-check-piece-spec : {M : Type 1} → statement M
 baker-check-piece-spec = tie.close (tie.spec check-piece-requires checked-requires returns)

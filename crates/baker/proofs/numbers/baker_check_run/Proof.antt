@@ -1,9 +1,9 @@
 -- `baker_check_run` meets its contract. Assumes nothing.
-use mathlib.Core.Path.{subst}
 use Rattle.rules.specs.Good.{runChecks}
 use Rattle.refusal.specs.Said.{Finds}
 use Rattle.rules.specs.Reach.{Run}
-use Rattle.baker.proofs.Back.{run-back}
+use Rattle.baker.specs.Coded.{checkedCode}
+use Rattle.baker.proofs.Back.{run-back, coded-back}
 use borrow.Author.Needs.{needs}
 use Rattle.baker.proofs.numbers.baker_check_run.Statement.{statement}
 use Rattle.baker.proofs.numbers.baker_check_run.Tie as tie
@@ -17,11 +17,7 @@ checked-requires c κs = search needs
 returns : tie.Need-returns
 returns c =
     let f = c .before .before .fits in
-    record {
-      answer = c .before .check-run .result;
-      says = subst (λ (r : Run). Finds (runChecks r) (c .before .check-run .result)) (run-back (f .x) (f .y) (f .z) (f .vx) (f .vy) (f .vz)) (c .before .check-run .ensures);
-      code = c .checked .ensures;
-    }
+    coded-back (λ (r : Run). Finds (runChecks r)) checkedCode (c .before .check-run .result) (run-back (f .x) (f .y) (f .z) (f .vx) (f .vy) (f .vz)) (c .before .check-run .ensures) (c .checked .ensures)
 
 pub baker-check-run-spec : {M : Type 1} → statement M
 baker-check-run-spec = tie.close (tie.spec check-run-requires checked-requires returns)

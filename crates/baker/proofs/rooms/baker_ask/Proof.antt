@@ -1,7 +1,9 @@
 -- `baker_ask` meets its contract. Assumes nothing.
 use denote.Ref.{now}
+use Rattle.rules.specs.Reach.{Run, Piece}
 use Rattle.book.specs.Ask.{AskSays}
-use Rattle.baker.proofs.Back.{run-back, piece-back, both}
+use Rattle.baker.specs.Coded.{askedCode}
+use Rattle.baker.proofs.Back.{run-back, piece-back, coded-back}
 use borrow.Author.Needs.{needs}
 use Rattle.baker.proofs.rooms.baker_ask.Statement.{statement}
 use Rattle.baker.proofs.rooms.baker_ask.Tie as tie
@@ -19,12 +21,9 @@ returns : tie.Need-returns
 returns c =
     let w = c .before .before .before in
     let s = w .before .before .before in
+    let a = s .args in
     let f = s .fits in
-    record {
-      answer = w .ask .result;
-      says = both (λ r k. AskSays (now (s .args .book)) (w .ask .last .0) r k (w .ask .result)) (run-back (f .x) (f .y) (f .z) (f .vx) (f .vy) (f .vz)) (piece-back (f .bottom) (f .top) (f .ux) (f .uy) (f .uz)) (w .ask .ensures);
-      code = c .asked .ensures;
-    }
+    coded-back (λ (q : Run × Piece). AskSays (now (s .args .book)) (w .ask .last .0) (q .0) (q .1)) askedCode (w .ask .result) (λ i. (run-back {t = a .ticks} (f .x) (f .y) (f .z) (f .vx) (f .vy) (f .vz) i, piece-back {l = now (a .corners)} (f .bottom) (f .top) (f .ux) (f .uy) (f .uz) i)) (w .ask .ensures) (c .asked .ensures)
 
 pub baker-ask-spec : {M : Type 1} → statement M
 baker-ask-spec = tie.close (tie.spec ask-requires asked-requires same-length returns)

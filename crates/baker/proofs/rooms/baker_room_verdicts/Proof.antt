@@ -1,9 +1,9 @@
 -- `baker_room_verdicts` meets its contract. Assumes nothing.
-use mathlib.Core.Path.{subst}
 use denote.Ref.{now}
 use Rattle.rules.specs.Reach.{Run}
 use Rattle.room.specs.Verdicts.{VerdictsSay}
-use Rattle.baker.proofs.Back.{run-back}
+use Rattle.baker.specs.Coded.{countedCode}
+use Rattle.baker.proofs.Back.{run-back, coded-back}
 use borrow.Author.Needs.{needs}
 use Rattle.baker.proofs.rooms.baker_room_verdicts.Statement.{statement}
 use Rattle.baker.proofs.rooms.baker_room_verdicts.Tie as tie
@@ -22,11 +22,7 @@ returns c =
     let w = c .before .before .before in
     let s = w .before .before .before .before in
     let f = s .fits in
-    record {
-      answer = w .verdicts .result;
-      says = subst (λ (r : Run). VerdictsSay r (now (s .args .image)) (now (s .args .list)) (w .verdicts .last .1 .1 .0) (w .verdicts .result)) (run-back (f .x) (f .y) (f .z) (f .vx) (f .vy) (f .vz)) (w .verdicts .ensures);
-      code = c .counted .ensures;
-    }
+    coded-back (λ (r : Run). VerdictsSay r (now (s .args .image)) (now (s .args .list)) (w .verdicts .last .1 .1 .0)) countedCode (w .verdicts .result) (run-back (f .x) (f .y) (f .z) (f .vx) (f .vy) (f .vz)) (w .verdicts .ensures) (c .counted .ensures)
 
 pub baker-room-verdicts-spec : {M : Type 1} → statement M
 baker-room-verdicts-spec =
