@@ -1,19 +1,18 @@
 -- What the run and the room were found to be decides which text answers. Assumes nothing.
-use mathlib.Core.Path.{_≡_, sym, ap, _∙_, subst}
+use mathlib.Core.Path.{_≡_, sym, ap, _∙_}
 use mathlib.Core.Logic.{inl, inr, ⊎-elim}
 use mathlib.Core.List.{List, [], _∷_, _++_}
 use Prim.Native.Nat.{ℕ, _-_, _≤_}
 use native.Mathlib.Omega.{arith}
 use lib.ListN.{length, take, drop, length-take, length-drop}
-use lib.Seq.{getD-take, take-all}
+use lib.Seq.{take-all}
 use Rattle.rules.specs.Reach.{Run, Pieces}
 use Rattle.rules.specs.Refusal.{Refusal, Check, Passes, Fault, demand, refuse}
 use Rattle.rules.specs.Good.{runChecks}
 use Rattle.rules.proofs.Checks.{AllSharp, passes-left, passes-right}
 use Rattle.rules.proofs.Good.{sharp-run}
-use Rattle.block.specs.Layout.{byte, blockAt}
-use Rattle.block.specs.Reading.{blockChecks, headerBytes, headerChecks}
-use Rattle.room.specs.Image.{count, inBlock, headChecks, roomChecks}
+use Rattle.room.specs.Image.{count, inBlock, headChecks, piecesCheck, roomChecks}
+use Rattle.room.proofs.Images.{head-few}
 use Rattle.room.specs.Verdicts.{verdictsChecks, Filled}
 use Rattle.shade.specs.Put.{Puts}
 use Rattle.shade.specs.Text.{page, lengthChecks, roomPart, Page}
@@ -35,13 +34,9 @@ unfolding lengthChecks
 alone input x f = ⊎-elim (λ h. ap (λ y. inBlock 0 y) (h .1) ∙ sym (h .1)) (λ h. absurd (h .1)) f
 
 -- ---- a good room has at most 126 pieces
-head-byte : (image : List ℕ) → byte (blockAt image 0) 5 ≡ count image
-unfolding blockAt
-head-byte image = getD-take 512 image 5 0 (omega arith)
-
 few-pieces : (image : List ℕ) → Passes (roomChecks image) → Pieces (count image)
-unfolding roomChecks headChecks headerChecks blockChecks headerBytes
-few-pieces image p = subst (λ n. n ≤ 126) (head-byte image) (p .1 .1 .1 .1 .1 .0)
+unfolding roomChecks
+few-pieces image p = head-few image (passes-left (headChecks image) (piecesCheck image ∷ []) p)
 
 -- the part after the run block
 pub rest : (input : List ℕ) → take (length input - 512) (drop 512 input) ≡ roomPart input

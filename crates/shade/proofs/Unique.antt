@@ -6,19 +6,12 @@ use native.Mathlib.Omega.{arith}
 use lib.ListN.{getD}
 use Rattle.rules.specs.Reach.{Run}
 use Rattle.rules.specs.Refusal.{Refusal, Passes, Fault}
-use Rattle.rules.specs.Verdict.{Verdict, answer}
 use Rattle.rules.proofs.Checks.{AllSharp, sharp-demand, never-both, one-fault}
-use Rattle.rules.proofs.Verdict.{one-verdict, answer-one}
-use Rattle.block.specs.Reading.{RunIn, PieceIn, runBlockChecks}
-use Rattle.block.proofs.RunLaws.{run-one, run-passes}
-use Rattle.block.proofs.RunLaws.{good-in as run-in}
-use Rattle.block.proofs.PieceLaws.{piece-one}
-use Rattle.block.proofs.PieceLaws.{good-in as piece-in}
+use Rattle.block.specs.Reading.{RunIn, runBlockChecks}
+use Rattle.block.proofs.RunLaws.{run-one, run-passes, good-in}
 use Rattle.block.proofs.Sharp.{sharp-run-block}
-use Rattle.block.specs.Layout.{blockAt}
 use Rattle.room.specs.Image.{count, roomChecks}
-use Rattle.room.proofs.Unique.{sharp-room}
-use Rattle.room.specs.Verdicts.{CodeOf}
+use Rattle.room.proofs.Unique.{sharp-room, code-one}
 use Rattle.shade.specs.Text.{runLine, roomLine, pieceLines, page, Whole, lengthChecks, runPart, roomPart, RunGiven, Page, Answers, badLength, badRun, badRoom, verdicts}
 
 -- ---- the same codes, the same page
@@ -48,22 +41,12 @@ module _ (input : List ℕ) where
       (subst (λ l. Passes (runBlockChecks l)) (sym (g .same)) (run-passes r (g .good))) f
 
   held : (r : Run) → RunGiven input r → RunIn (runPart input) r
-  held r g = subst (λ l. RunIn l r) (sym (g .same)) (run-in r (g .good))
-
-  same-code : (r : Run) (image : List ℕ) (i c d : ℕ) → CodeOf r image i c → CodeOf r image i d → c ≡ d
-  same-code r image i c d a b =
-      answer-one c d (one-verdict r (a .piece) (answer c) (answer d) (a .verdict) (subst (λ k. Verdict r k (answer d)) (sym same) (b .verdict)))
-    where
-      holds : (e : ℕ) (o : CodeOf r image i e) → PieceIn (blockAt image (suc i)) (o .piece)
-      holds e o = subst (λ l. PieceIn l (o .piece)) (sym (o .block)) (piece-in (o .piece) (o .good))
-
-      same : a .piece ≡ b .piece
-      same = piece-one (blockAt image (suc i)) (a .piece) (b .piece) (holds c a) (holds d b)
+  held r g = subst (λ l. RunIn l r) (sym (g .same)) (good-in r (g .good))
 
   same-page : (r : Run) (a b : List ℕ) → Page r input a → Page r input b → a ≡ b
   same-page r a b p q =
       p .text
-      ∙ (page-one (p .codes) (q .codes) (count (roomPart input)) (λ i h. same-code r (roomPart input) i _ _ (p .each i h) (q .each i h)) ∙ sym (q .text))
+      ∙ (page-one (p .codes) (q .codes) (count (roomPart input)) (λ i h. code-one r (roomPart input) i _ _ (p .each i h) (q .each i h)) ∙ sym (q .text))
 
   pub one-text : (a b : List ℕ) → Answers input a → Answers input b → a ≡ b
   one-text a b (badLength x f e) (badLength y g h) = e ∙ (ap roomLine (one-fault (lengthChecks input) sharp-length x y f g) ∙ sym h)
