@@ -1,22 +1,19 @@
 -- Numbers put into a lent list from its begin. Assumes nothing.
-use mathlib.Core.Path.{_≡_, refl, ap, _∙_}
+use mathlib.Core.Path.{_≡_, refl}
 use mathlib.Core.List.{List, _++_}
-use Prim.Native.Nat.{ℕ, _*_, _-_, _≤_, _<_}
+use Prim.Native.Nat.{ℕ, _≤_, _<_}
 use native.Mathlib.Nat.{zero-add}
 use native.Mathlib.Omega.{arith}
-use lib.IntN.{ℤ, pos}
-use lib.ListN.{length, drop, length-append, replicate}
+use lib.IntN.{ℤ}
+use lib.ListN.{length, drop, length-append}
 use lib.Seq.{paste, take-length, drop-append-add, drop-drop, take-at}
 use borrow.Author.Tests.{le-leb, lt-leb}
 use Rattle.rules.specs.Refusal.{refuse}
 use Rattle.refusal.specs.declared.Checked.{Checked}
 use Rattle.refusal.specs.declared.Checked.the-variants.{Good, Refused}
-use Rattle.rules.specs.Reach.{Piece}
-use Rattle.rules.specs.Ring.{ring}
 use Rattle.block.specs.declared.PieceRead.{PieceRead}
-use Rattle.block.specs.Reading as reading
-use Rattle.block.specs.Reading.{PieceFound, PieceSays, nothing}
-use Rattle.block.proofs.PieceLaws.{good-sized, sized-length}
+use Rattle.block.specs.Reading.{PieceFound, PieceSays}
+use Rattle.room.proofs.Coding.{held-few, held-long}
 use Rattle.baker.specs.Listed.{out, kept, listed, Holds}
 
 module _ (least : ℕ) (before : List ℤ) (c : ℕ) (l : List ℤ) where
@@ -35,16 +32,9 @@ pub laid-two : (before l m : List ℤ) → paste (paste before 0 l (length l)) (
 laid-two before l m = rw (zero-add, take-length l, take-at l (drop (length l) before) (length l) refl, take-length m, drop-append-add l (drop (length l) before) (length m), drop-drop (length m) (length l) before, length-append l m)
 
 -- ---- a piece that was read holds its corners
-of-piece : (r : PieceRead) (k : Piece) → reading.Holds r k → ring (k .corners) .size ≤ 64 → 2 * ring (k .corners) .size ≤ length (k .corners) → Holds r
-of-piece r k h m l =
-    record {
-      count = omega (arith, h .count);
-      corners = omega (arith, h .count, ap length (h .corners) ∙ length-append (k .corners) (replicate (128 - length (k .corners)) (pos 0)));
-    }
-
 read-found : (l : List ℕ) (r : PieceRead) (x : Checked) → PieceFound l r x → Holds r
-read-found l r Good f = let s = good-sized (f .piece) (f .good) in of-piece r (f .piece) (f .holds) (s .corners .most) (omega (arith, sized-length (f .piece .corners) s))
-read-found l r (Refused x) f = of-piece r nothing (f .holds) (omega arith) (omega arith)
+read-found l r Good f = record { count = omega (arith, held-few l r f); corners = held-long l r f }
+read-found l r (Refused x) f = record { count = omega (arith, f .holds .count); corners = omega (arith, f .holds .count) }
 
 pub read-holds : (l : List ℕ) (r : PieceRead) → PieceSays l r → Holds r
 read-holds l r f = read-found l r (r .found) f
