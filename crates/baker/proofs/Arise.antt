@@ -1,4 +1,4 @@
--- Every refusal that the checks of a call can give fits in the bits of its code. Assumes nothing.
+-- Every refusal that the checks of a call can give fits in the bits of its code, and no mark is the code of clear. Assumes nothing.
 use mathlib.Core.Path.{_≡_, sym, subst}
 use mathlib.Core.Logic.{inl, inr, ⊎-elim}
 use mathlib.Core.List.{List, [], _∷_, _++_}
@@ -12,18 +12,23 @@ use Rattle.rules.specs.Refusal.{Refusal, refuse, Check, Passes, Fault, demand, 
 use Rattle.rules.specs.Good.{Sized, runChecks, sizedCheck, bandCheck, shapeChecks, footprintChecks, pieceChecks}
 use Rattle.rules.specs.Place.{placeChecks}
 use Rattle.rules.specs.Verdict.{verdictChecks}
+use Rattle.rules.proofs.Checks.{passes-left}
+use Rattle.rules.proofs.Verdict.{mark-most}
+use Rattle.piece.specs.Tells.{Tells}
+use Rattle.piece.specs.declared.motion.Verdict.the-variants.{Clear, Mark}
 use Rattle.intake.specs.declared.Corner.{Corner}
 use Rattle.intake.specs.declared.Taken.{Taken}
 use Rattle.intake.specs.declared.Taken.the-variants.{Grid, OffGrid, NotNumber, Beyond}
 use Rattle.intake.specs.Footprint.{Row, numberCheck, cornerAt, cornersChecks, intakeChecks}
 use Rattle.block.specs.Reading.{blockChecks, headerBytes, headerChecks, runBytes, pieceBytes, RunIn, PieceIn, inside, runBlockChecks, pieceBlockChecks, headerAsked, runAsked, pieceAsked}
+use Rattle.block.proofs.RunLaws.{good-ticks}
 use Rattle.block.proofs.PieceLaws.{sized-most}
 use Rattle.room.specs.Image.{blockAt, inBlock, headChecks, piecesCheck, roomChecks}
 use Rattle.room.specs.Step.{StepFault, head, block}
 use Rattle.room.specs.Verdicts.{verdictsChecks}
 use Rattle.room.proofs.Images.{head-few}
 use Rattle.book.specs.Ask.{askChecks}
-use Rattle.baker.specs.Coded.{refusalCode}
+use Rattle.baker.specs.Coded.{refusalCode, verdictCode}
 use Rattle.baker.specs.Told.{Fits, told}
 use Rattle.baker.specs.Export.{corners, exportChecks}
 use Rattle.baker.proofs.Readable.{readable}
@@ -175,3 +180,8 @@ fit-export xs size = asks (omega arith) (λ p. asks (omega arith) (λ c. asks (o
 -- ---- so each of them reads back
 pub fault-told : (cs : List Check) → AllFit cs → (s : Refusal) → Fault cs s → told (refusalCode s) ≡ inr s
 fault-told cs f s h = readable (inr s) (f .fits s h)
+
+-- ---- numbers: a mark is below what codes clear
+pub mark-small : (r : Run) (k : Piece) (m : ℕ) → Tells r k (Mark m) → m < verdictCode Clear
+unfolding verdictChecks
+mark-small r k m f = omega (arith, mark-most r k m (f .1), good-ticks r (passes-left (runChecks r) (pieceChecks k) (f .0)))
