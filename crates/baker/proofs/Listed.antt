@@ -13,7 +13,7 @@ use Rattle.refusal.specs.declared.Checked.{Checked}
 use Rattle.refusal.specs.declared.Checked.the-variants.{Good, Refused}
 use Rattle.block.specs.declared.PieceRead.{PieceRead}
 use Rattle.block.specs.Reading.{PieceFound, PieceSays}
-use Rattle.room.proofs.Coding.{held-few, held-long}
+use Rattle.block.proofs.PieceLaws.{held-few, held-long}
 use Rattle.baker.specs.Listed.{out, kept, listed, Holds}
 
 module _ (least : ℕ) (before : List ℤ) (c : ℕ) (l : List ℤ) where

@@ -5,7 +5,7 @@ use mathlib.Core.List.{List, [], _∷_, _++_}
 use Prim.Native.Nat.{ℕ, zero, suc, _+_, _*_, _-_, _≤_, _<_}
 use native.Mathlib.Omega.{arith}
 use lib.IntN.{ℤ, pos}
-use lib.ListN.{length, getD, take, drop, replicate, length-replicate, length-drop, take-append-drop, List·getD-eq-default}
+use lib.ListN.{length, getD, take, drop, replicate, length-replicate, length-drop, take-append-drop, List·getD-eq-default, length-append}
 use lib.Seq.{length-take-le, getD-take, getD-drop, ext-getD}
 use lib.Signed.{leZ-yes}
 use mir.Syntax.{w8, w32}
@@ -27,7 +27,7 @@ use Rattle.piece.specs.declared.Band.{Band}
 use Rattle.piece.specs.Numbers.{pieceOf}
 use Rattle.block.specs.declared.PieceRead.{PieceRead}
 use Rattle.block.specs.Layout.{byte, word, words, filled, blockOf, pieceNumbers, pieceBody, pieceBlock}
-use Rattle.block.specs.Reading.{Half, PieceIn, inside, blockChecks, pieceBytes, pieceBlockChecks, Holds, nothing, PieceFound, PieceSays, Word}
+use Rattle.block.specs.Reading.{Half, PieceIn, inside, blockChecks, pieceBytes, pieceBlockChecks, Holds, nothing, PieceFound, PieceSays, Word, PieceGood}
 use Rattle.block.specs.Scan.{BandAt, CornersAt}
 use Rattle.block.proofs.Bytes.{filled-at, filled-length, block-length, block-at, block-sealed, block-same}
 use Rattle.block.proofs.Face.{stable, unnamed-front}
@@ -307,3 +307,14 @@ numbers-past k j h g = let l : length (pieceNumbers k) ≤ j = omega arith in Li
 
 pub says-refused : (l : List ℕ) (r : PieceRead) (x : Refusal) → r .found ≡ Refused x → Fault (pieceBlockChecks l) (said x) → Holds r nothing → PieceSays l r
 says-refused l r x e f h = subst (PieceFound l r) (sym e) (record { fault = f; holds = h })
+
+-- ---- the corners that a reading holds
+module _ (l : List ℕ) (r : PieceRead) (g : PieceGood l r) where
+  held-count : 2 * r .count ≡ length (g .piece .corners)
+  held-count = let e = sized-length (g .piece .corners) (good-sized (g .piece) (g .good)) in let f = g .holds .count in omega arith
+
+  pub held-few : 2 * r .count ≤ 128
+  held-few = let e = sized-most (g .piece .corners) (good-sized (g .piece) (g .good)) in let f = held-count in omega arith
+
+  pub held-long : 2 * r .count ≤ length (r .corners)
+  held-long = let f = held-count in omega (arith, simp length-append at (ap length (g .holds .corners)))
