@@ -13,17 +13,18 @@ use Rattle.rules.specs.Good.{Sized, runChecks, sizedCheck, bandCheck, shapeChec
 use Rattle.rules.specs.Place.{placeChecks}
 use Rattle.rules.specs.Verdict.{verdictChecks}
 use Rattle.rules.proofs.Checks.{passes-left}
-use Rattle.rules.proofs.Verdict.{mark-most}
+use Rattle.rules.proofs.Verdict.{mark-small}
 use Rattle.piece.specs.Tells.{Tells}
 use Rattle.piece.specs.declared.motion.Verdict.the-variants.{Clear, Mark}
 use Rattle.intake.specs.declared.Corner.{Corner}
 use Rattle.intake.specs.declared.Taken.{Taken}
 use Rattle.intake.specs.declared.Taken.the-variants.{Grid, OffGrid, NotNumber, Beyond}
 use Rattle.intake.specs.Footprint.{Row, numberCheck, cornerAt, cornersChecks, intakeChecks}
+use Rattle.block.specs.Layout.{blockAt}
 use Rattle.block.specs.Reading.{blockChecks, headerBytes, headerChecks, runBytes, pieceBytes, RunIn, PieceIn, inside, runBlockChecks, pieceBlockChecks, headerAsked, runAsked, pieceAsked}
 use Rattle.block.proofs.RunLaws.{good-ticks}
 use Rattle.block.proofs.PieceLaws.{sized-most}
-use Rattle.room.specs.Image.{blockAt, inBlock, headChecks, piecesCheck, roomChecks}
+use Rattle.room.specs.Image.{inBlock, headChecks, piecesCheck, roomChecks}
 use Rattle.room.specs.Step.{StepFault, head, block}
 use Rattle.room.specs.Verdicts.{verdictsChecks}
 use Rattle.room.proofs.Images.{head-few}
@@ -182,6 +183,6 @@ pub fault-told : (cs : List Check) → AllFit cs → (s : Refusal) → Fault cs 
 fault-told cs f s h = readable (inr s) (f .fits s h)
 
 -- ---- numbers: a mark is below what codes clear
-pub mark-small : (r : Run) (k : Piece) (m : ℕ) → Tells r k (Mark m) → m < verdictCode Clear
+pub mark-told : (r : Run) (k : Piece) (m : ℕ) → Tells r k (Mark m) → m < verdictCode Clear
 unfolding verdictChecks
-mark-small r k m f = omega (arith, mark-most r k m (f .1), good-ticks r (passes-left (runChecks r) (pieceChecks k) (f .0)))
+mark-told r k m f = mark-small r k m (good-ticks r (passes-left (runChecks r) (pieceChecks k) (f .0))) (f .1)

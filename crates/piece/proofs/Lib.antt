@@ -10,4 +10,3 @@ pub mod Pairs
 pub mod Finds
 pub mod Scan
 pub mod Unique
-pub mod OneCode

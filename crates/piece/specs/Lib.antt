@@ -6,4 +6,3 @@ pub mod Decide
 pub mod Steps
 pub mod Shape
 pub mod Place
-pub mod Code

@@ -8,9 +8,7 @@ ghost use Rattle.refusal.specs.Said.{Finds};
 ghost use Rattle.piece.specs.Numbers.{runOf, pieceOf};
 ghost use Rattle.piece.specs.Place.{pt, Lies};
 ghost use Rattle.piece.specs.Tells.{Tells};
-ghost use Rattle.piece.specs.Code.{CodeSays};
 
-mod coded;
 mod good;
 mod motion;
 mod number;
@@ -107,15 +105,4 @@ pub fn verdict(run: Run, band: Band, corners: &[i32]) -> Verdict
     } else {
         Verdict::Mark(mark)
     }
-}
-
-// The verdict of a run and a piece that are known to be good, coded as in an entry: the mark, or 0xFFFFFFFF for clear.
-// Whoever checked the piece need not check its shape again; where a number is out of reach the answer is 0.
-pub fn code(run: Run, band: Band, corners: &[i32]) -> u32
-    ensures { λ r. ⌜ CodeSays (runOf run) (pieceOf band (now (corners .entry))) r ⌝ }
-{
-    if !coded::known(run, band, corners) {
-        return 0;
-    }
-    motion::code(run, band, corners)
 }

@@ -42,9 +42,6 @@ pub run-known : (r : Run) → Passes (runChecks r) → RunKnown r
 unfolding runChecks
 run-known r p j h = run-stable r j (p .0 j h)
 
-pub numbers-known : (k : Piece) → Sized (k .corners) → ((j : ℕ) → j < 5 → (bandNumber k j → ⊥) → ⊥) → ((j : ℕ) → j < length (k .corners) → (Reach (getD (k .corners) j (pos 0)) → ⊥) → ⊥) → PieceKnown k
-numbers-known k s b c = record { sized = s; band = λ j h. band-stable k j (b j h); corners = λ j h. between-stable _ _ _ (c j h) }
-
 pub piece-known : (k : Piece) → Passes (pieceChecks k) → PieceKnown k
 unfolding pieceChecks sizedCheck bandCheck shapeChecks
-piece-known k p = numbers-known k (p .0) (p .1 .0) (p .1 .1 .0)
+piece-known k p = record { sized = p .0; band = λ j h. band-stable k j (p .1 .0 j h); corners = λ j h. between-stable _ _ _ (p .1 .1 .0 j h) }
