@@ -8,11 +8,15 @@ use Rattle.rules.specs.Place.{Where, on, inside, outside, Place, placeChecks}
 use Rattle.refusal.specs.Said.{said}
 use Rattle.piece.specs.declared.Placed.{Placed}
 use Rattle.piece.specs.declared.Placed.the-variants as placed
+use Rattle.piece.specs.declared.spot.Point.{Point}
 use Rattle.piece.specs.declared.spot.Spot.{Spot}
 use Rattle.piece.specs.declared.spot.Spot.the-variants as spot
 
 abbrev pub pt : ℤ → ℤ → Pt
 pt x y = record { x = x; y = y }
+
+abbrev pub ptOf : Point → Pt
+ptOf p = pt (p .x) (p .y)
 
 -- a good footprint and one of three places, or the refusal
 abbrev pub Lies : Pt → List ℤ → Placed → Type 0

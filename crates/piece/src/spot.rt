@@ -11,8 +11,8 @@ use crate::ring::y;
 use refusal::Checked;
 use refusal::Refusal;
 ghost use mathlib.Core.Path.{_≡_};
-ghost use Prim.Native.Nat.{ℕ, _<_};
-ghost use lib.IntN.{_*ℤ_};
+ghost use Prim.Native.Nat.{ℕ, _≤_, _<_};
+ghost use lib.IntN.{natAbs, _*ℤ_};
 ghost use mir.Syntax.{w64};
 ghost use mir.Val.{SFits};
 ghost use Rattle.rules.specs.Ring.{ring};
@@ -23,12 +23,17 @@ ghost use Rattle.rules.proofs.Crossing.{xor, crosses};
 ghost use Rattle.decide.specs.Touch.{ranged, isOn, place, over};
 ghost use Rattle.piece.specs.Steps.{SideSteps};
 ghost use Rattle.piece.specs.Shape.{Holds, Corner};
-ghost use Rattle.piece.specs.Place.{pt, Near, whereOf};
+ghost use Rattle.piece.specs.Place.{pt, ptOf, Near, whereOf};
 
 pub(crate) enum Spot {
     On,
     Inside,
     Outside,
+}
+
+struct Point {
+    x: i64,
+    y: i64,
 }
 
 // Whether z lies from a to b.
@@ -82,48 +87,32 @@ fn scaled(d: i64, z: i64) -> i64
     d * z
 }
 
-// The same of the edge from corner i to corner k, over d.
-fn on_at(l: &[i32], i: usize, k: usize, px: i64, py: i64, d: i64) -> bool
-    requires { ⌜ Near d px py × (Corner (now l) i × Corner (now l) k) ⌝ }
-    ensures { λ r. ⌜ r ≡ isOn (pt px py) (over d (ring (now (l .entry))) .at i) (over d (ring (now (l .entry))) .at k) ⌝ }
+// Corner i, over d.
+fn corner_at(l: &[i32], i: usize, d: i64) -> Point
+    requires { ⌜ (natAbs d ≤ 510) × Corner (now l) i ⌝ }
+    ensures { λ r. ⌜ ptOf r ≡ over d (ring (now (l .entry))) .at i ⌝ }
 {
-    is_on(
-        scaled(d, x(l, i)),
-        scaled(d, y(l, i)),
-        scaled(d, x(l, k)),
-        scaled(d, y(l, k)),
-        px,
-        py,
-    )
+    Point {
+        x: scaled(d, x(l, i)),
+        y: scaled(d, y(l, i)),
+    }
 }
 
-fn counted_at(l: &[i32], i: usize, k: usize, px: i64, py: i64, d: i64) -> bool
-    requires { ⌜ Near d px py × (Corner (now l) i × Corner (now l) k) ⌝ }
-    ensures { λ r. ⌜ r ≡ crosses (over d (ring (now (l .entry))) .at i) (over d (ring (now (l .entry))) .at k) (pt px py) ⌝ }
-{
-    is_counted(
-        scaled(d, x(l, i)),
-        scaled(d, y(l, i)),
-        scaled(d, x(l, k)),
-        scaled(d, y(l, k)),
-        px,
-        py,
-    )
-}
-
-// The place of the point (px, py) over d, in one pass over the edges.
+// The place of the point (px, py) over d, in one pass over the edges. A corner is carried from one edge to the next.
 pub(crate) fn place_at(l: &[i32], n: usize, px: i64, py: i64, d: i64) -> Spot
     requires { ⌜ Near d px py × (Holds (now l) n × ((j : ℕ) → j < n → Corner (now l) j)) ⌝ }
     ensures { λ r. ⌜ whereOf r ≡ place (over d (ring (now (l .entry)))) (pt px py) ⌝ }
 {
     let mut odd = false;
+    let mut a = corner_at(l, 0, d);
     let mut i = 0;
     while i < n {
-        let k = next(n, i);
-        if on_at(l, i, k, px, py, d) {
+        let b = corner_at(l, next(n, i), d);
+        if is_on(a.x, a.y, b.x, b.y, px, py) {
             return Spot::On;
         }
-        odd = differ(odd, counted_at(l, i, k, px, py, d));
+        odd = differ(odd, is_counted(a.x, a.y, b.x, b.y, px, py));
+        a = b;
         i += 1;
     }
     if odd { Spot::Inside } else { Spot::Outside }

@@ -1,26 +1,53 @@
 -- `spot::place_at` computes the place. Assumes nothing.
 use Rattle.piece.proofs.Scan.{Scan, scan-none, scan-step, on-place, in-place, out-place}
 use Rattle.piece.proofs.Outline.{size-of}
-use Rattle.piece.specs.Place.{pt, Near}
+use Rattle.piece.proofs.Steps.{Wide, side-steps, scaled-wide}
+use Rattle.piece.specs.Place.{pt, ptOf, Near}
 use Rattle.piece.specs.Shape.{Corner}
+use Rattle.piece.specs.Steps.{SideSteps}
+use Rattle.piece.specs.declared.spot.Point.{Point}
 use Rattle.decide.specs.Touch.{isOn, over}
 use Rattle.rules.proofs.Crossing.{crosses}
-use Rattle.rules.proofs.Ring.{next-below}
+use Rattle.rules.proofs.Ring.{next-below, next-inner}
 use Rattle.rules.specs.Ring.{Pt, Ring, ring, next, from, to}
+use Rattle.whole.proofs.Range.{field}
 use mir.Facts.{toZ-ofZ}
 use mir.Val.{toZ, ofZ}
 use mir.Syntax.{w64}
+use lib.IntN.{ℤ}
 use native.Mathlib.Omega.{arith}
-use Prim.Native.Nat.{ℕ, _-_}
+use native.Mathlib.Numerals.{add-one}
+use Prim.Native.Nat.{ℕ, _-_, _<_}
+use mathlib.Core.Bool.{Bool}
+use mathlib.Core.List.{List}
 use mathlib.Core.Path.{_≡_, sym, ap, subst, _∙_}
 use Rattle.piece.proofs.spot.place_at.Statement.{statement}
 use Rattle.piece.proofs.spot.place_at.Tie as tie
 
+-- i edges passed, and corner i carried
+record Kept (r : Ring) (p : Pt) (n : ℕ) (odd : Bool) (a : Point) (i : ℕ) : Type 0 where
+  scan : Scan r p n i odd
+  here : i < n → ptOf a ≡ r .at i
+
 abbrev Inv-loop : tie.InvT-loop
-Inv-loop l n px py d odd₀ i₀ odd i = Scan (over (toZ w64 d) (ring l)) (pt (toZ w64 px) (toZ w64 py)) n i odd
+Inv-loop l n px py d odd₀ a₀ i₀ odd a i = Kept (over (toZ w64 d) (ring l)) (pt (toZ w64 px) (toZ w64 py)) n odd a i
 
 abbrev μ-loop : tie.MeasureT-loop
-μ-loop l n px py d odd₀ i₀ odd i = n - i
+μ-loop l n px py d odd₀ a₀ i₀ odd a i = n - i
+
+-- an edge's ends, over d, and a point: what `side` asks
+module _ (l : List ℤ) (d px py : ℤ) (h : Near d px py) where
+  wide : (i : ℕ) (x y : ℤ) → Corner l i → pt x y ≡ over d (ring l) .at i → Wide x × Wide y
+  wide i x y c e = (subst Wide (sym (ap (λ (q : Pt). q .x) e)) (scaled-wide d _ (h .den) (c .x)), subst Wide (sym (ap (λ (q : Pt). q .y) e)) (scaled-wide d _ (h .den) (c .y)))
+
+  steps : (i k : ℕ) (ax ay bx by : ℤ) → Corner l i → Corner l k → pt ax ay ≡ over d (ring l) .at i → pt bx by ≡ over d (ring l) .at k → SideSteps ax ay bx by px py
+  steps i k ax ay bx by c e f g =
+      let u = wide i ax ay c f in
+      let v = wide k bx by e g in
+      side-steps ax ay bx by px py (u .0) (u .1) (v .0) (v .1) (h .x) (h .y)
+
+same : (f : Pt → Pt → Bool) (a b p q : Pt) → a ≡ p → b ≡ q → f a b ≡ f p q
+same f a b p q e g = rw (e, g)
 
 abbrev ringOf : tie.Start Inv-loop μ-loop → Ring
 ringOf s = over (toZ w64 (ofZ w64 (s .args .d))) (ring (s .args .l .now))
@@ -28,59 +55,114 @@ ringOf s = over (toZ w64 (ofZ w64 (s .args .d))) (ring (s .args .l .now))
 abbrev pointOf : tie.Start Inv-loop μ-loop → Pt
 pointOf s = pt (toZ w64 (ofZ w64 (s .args .px))) (toZ w64 (ofZ w64 (s .args .py)))
 
-given : (c : tie.After-next Inv-loop μ-loop) → Near (toZ w64 (ofZ w64 (c .before .before .before .args .d))) (toZ w64 (ofZ w64 (c .before .before .before .args .px))) (toZ w64 (ofZ w64 (c .before .before .before .args .py))) × (Corner (c .before .before .before .args .l .now) (c .before .before .loop .i) × Corner (c .before .before .before .args .l .now) (c .next .result))
-given c =
-    let s = c .before .before .before in
-    (rw (toZ-ofZ (s .fits .d), toZ-ofZ (s .fits .px), toZ-ofZ (s .fits .py)) (s .pre .0), (s .pre .1 .1 _ (c .before .loop-test .taken), rw (c .next .ensures) (s .pre .1 .1 _ (next-below _ _ (c .before .loop-test .taken)))))
+near : (s : tie.Start Inv-loop μ-loop) → Near (toZ w64 (ofZ w64 (s .args .d))) (toZ w64 (ofZ w64 (s .args .px))) (toZ w64 (ofZ w64 (s .args .py)))
+near s = rw (toZ-ofZ (s .fits .d), toZ-ofZ (s .fits .px), toZ-ofZ (s .fits .py)) (s .pre .0)
 
-to-next : (c : tie.After-next Inv-loop μ-loop) → c .next .result ≡ next (ring (c .before .before .before .args .l .now) .size) (c .before .before .loop .i)
-to-next c = c .next .ensures ∙ ap (λ (n : ℕ). next n (c .before .before .loop .i)) (size-of (c .before .before .before .pre .1 .0))
+corner : (s : tie.Start Inv-loop μ-loop) (j : ℕ) → j < s .args .n → Corner (s .args .l .now) j
+corner s = s .pre .1 .1
 
-said : (c : tie.After-on-at Inv-loop μ-loop) → c .on-at .result ≡ isOn (pointOf (c .before .before .before .before)) (from (ringOf (c .before .before .before .before)) (c .before .before .before .loop .i)) (to (ringOf (c .before .before .before .before)) (c .before .before .before .loop .i))
-said c = c .on-at .ensures ∙ ap (λ (k : ℕ). isOn (pointOf (c .before .before .before .before)) (ringOf (c .before .before .before .before) .at (c .before .before .before .loop .i)) (ringOf (c .before .before .before .before) .at k)) (to-next (c .before))
+size : (s : tie.Start Inv-loop μ-loop) → s .args .n ≡ ring (s .args .l .now) .size
+size s = size-of (s .pre .1 .0)
 
--- every edge passed
-done : (c : tie.After-loop Inv-loop μ-loop) → Scan (ringOf (c .before .before)) (pointOf (c .before .before)) (ring (c .before .before .args .l .now) .size) (ring (c .before .before .args .l .now) .size) (c .before .loop .odd)
-done c =
-    let v = c .before .loop .inv in
-    let e = size-of (c .before .before .pre .1 .0) in
-    let u = v .upto in
-    let f : c .before .loop .i ≡ ring (c .before .before .args .l .now) .size = omega arith in
-    subst (λ (n : ℕ). Scan (ringOf (c .before .before)) (pointOf (c .before .before)) n (ring (c .before .before .args .l .now) .size) (c .before .loop .odd)) e (subst (λ (i : ℕ). Scan (ringOf (c .before .before)) (pointOf (c .before .before)) (c .before .before .args .n) i (c .before .loop .odd)) f v)
+-- the ends of the turn's edge
+abbrev Ends : tie.After-struct-told4 Inv-loop μ-loop → Type 0
+Ends c =
+    let e = c .before .before .before .before in
+    let g = e .before .before .before .loop in
+    let s = e .before .before .before .before .before in
+    (pt (toZ w64 (ofZ w64 (g .a .x))) (toZ w64 (ofZ w64 (g .a .y))) ≡ from (ringOf s) (g .i)) × (pt (toZ w64 (ofZ w64 (e .corner-at2 .result .x))) (toZ w64 (ofZ w64 (e .corner-at2 .result .y))) ≡ to (ringOf s) (g .i))
+
+ends : (c : tie.After-struct-told4 Inv-loop μ-loop) → Ends c
+ends c =
+    let e = c .before .before .before .before in
+    let g = e .before .before .before .loop in
+    let s = e .before .before .before .before .before in
+    (rw (field w64 (g .a .x) (omega arith), field w64 (g .a .y) (omega arith)) (g .inv .here (e .before .before .loop-test .taken)), rw (field w64 (e .corner-at2 .result .x) (omega arith), field w64 (e .corner-at2 .result .y) (omega arith)) (e .corner-at2 .ensures ∙ ap (λ (k : ℕ). ringOf s .at k) (e .before .next .ensures ∙ ap (λ (n : ℕ). next n (g .i)) (size s))))
+
+corner-at-requires : tie.Need-corner-at-requires Inv-loop μ-loop
+corner-at-requires c κs = (near c .den, corner c 0 (let m = c .pre .1 .0 .corners .least in omega arith))
 
 loop-holds : tie.Need-loop-holds Inv-loop μ-loop
-loop-holds c = scan-none _ _ _
+loop-holds c = record { scan = scan-none _ _ _; here = λ h. c .corner-at .ensures }
 
 next-requires : tie.Need-next-requires Inv-loop μ-loop
 next-requires c κs = c .loop-test .taken
 
-on-at-requires : tie.Need-on-at-requires Inv-loop μ-loop
-on-at-requires c κs = given c
+corner-at-requires-2 : tie.Need-corner-at-requires-2 Inv-loop μ-loop
+corner-at-requires-2 c κs = let s = c .before .before .before .before in
+    (near s .den, rw (c .next .ensures) (corner s _ (next-below _ _ (c .before .loop-test .taken))))
+
+side-fits : (c : tie.After-struct-told4 Inv-loop μ-loop) →
+    let e = c .before .before .before .before in
+    let g = e .before .before .before .loop in
+    let s = e .before .before .before .before .before in
+    SideSteps (toZ w64 (ofZ w64 (g .a .x))) (toZ w64 (ofZ w64 (g .a .y))) (toZ w64 (ofZ w64 (e .corner-at2 .result .x))) (toZ w64 (ofZ w64 (e .corner-at2 .result .y))) (toZ w64 (ofZ w64 (s .args .px))) (toZ w64 (ofZ w64 (s .args .py)))
+side-fits c =
+    let e = c .before .before .before .before in
+    let s = e .before .before .before .before .before in
+    let h = e .before .before .loop-test .taken in
+    steps (s .args .l .now) _ _ _ (near s) _ _ _ _ _ _ (corner s _ h) (rw (← (size s)) (corner s _ (next-below _ _ h))) (ends c .0) (ends c .1)
+
+is-on-requires : tie.Need-is-on-requires Inv-loop μ-loop
+is-on-requires c κs = side-fits c
+
+said : (c : tie.After-is-on Inv-loop μ-loop) →
+    let e = c .before .before .before .before .before in
+    let g = e .before .before .before .loop in
+    let s = e .before .before .before .before .before in
+    c .is-on .result ≡ isOn (pointOf s) (from (ringOf s) (g .i)) (to (ringOf s) (g .i))
+said c = c .is-on .ensures ∙ same (isOn (pointOf (c .before .before .before .before .before .before .before .before .before .before))) _ _ _ _ (ends (c .before) .0) (ends (c .before) .1)
 
 returns : tie.Need-returns Inv-loop μ-loop
-returns c = rw (← (toZ-ofZ (c .before .before .before .before .before .fits .d)), ← (toZ-ofZ (c .before .before .before .before .before .fits .px)), ← (toZ-ofZ (c .before .before .before .before .before .fits .py))) (on-place _ _ (c .before .before .before .before .loop .i) (rw (← (size-of (c .before .before .before .before .before .pre .1 .0))) (c .before .before .before .loop-test .taken)) (sym (said (c .before)) ∙ c .if1 .taken))
+returns c =
+    let e = c .before .before .before .before .before .before in
+    let s = e .before .before .before .before .before in
+    rw (← (toZ-ofZ (s .fits .d)), ← (toZ-ofZ (s .fits .px)), ← (toZ-ofZ (s .fits .py))) (on-place _ _ (e .before .before .before .loop .i) (rw (← (size s)) (e .before .before .loop-test .taken)) (sym (said (c .before)) ∙ c .if1 .taken))
 
-counted-at-requires : tie.Need-counted-at-requires Inv-loop μ-loop
-counted-at-requires c κs = given (c .before .before)
+is-counted-requires : tie.Need-is-counted-requires Inv-loop μ-loop
+is-counted-requires c κs = side-fits (c .before .before .before .before .before .before)
 
 differ-requires : tie.Need-differ-requires Inv-loop μ-loop
 differ-requires c κs = tt
 
 add-i : tie.Need-add-i Inv-loop μ-loop
-add-i c = let h = c .before .before .before .before .before .before .before .pre .1 .0 .corners .most in omega arith
+add-i c = let h = c .before .before .before .before .before .before .before .before .before .before .before .before .before .before .before .before .before .pre .1 .0 .corners .most in omega arith
 
 loop-less : tie.Need-loop-less Inv-loop μ-loop
 loop-less c = omega arith
 
 loop-again : tie.Need-loop-again Inv-loop μ-loop
-loop-again c = rw (c .differ .ensures, c .before .counted-at .ensures ∙ ap (λ (k : ℕ). crosses (ringOf (c .before .before .before .before .before .before .before) .at (c .before .before .before .before .before .before .loop .i)) (ringOf (c .before .before .before .before .before .before .before) .at k) (pointOf (c .before .before .before .before .before .before .before))) (to-next (c .before .before .before .before)))
-    (scan-step _ _ _ _ _ (c .before .before .before .before .before .loop-test .taken) (c .before .before .before .before .before .before .loop .inv) (sym (said (c .before .before .before)) ∙ c .before .before .if1 .left))
+loop-again c =
+    let k = c .before .before .before .before .before .before .before .before in
+    let e = k .before .before .before .before in
+    let g = e .before .before .before .loop in
+    let s = e .before .before .before .before .before in
+    record {
+      scan = rw (c .differ .ensures, c .before .is-counted .ensures ∙ same (λ a b. crosses a b (pointOf s)) _ _ _ _ (ends k .0) (ends k .1)) (scan-step _ _ _ _ _ (e .before .before .loop-test .taken) (g .inv .scan) (sym (said (c .before .before .before .before .before .before .before)) ∙ c .before .before .before .before .before .before .if1 .left));
+      here = λ h. rw (add-one (g .i)) (e .corner-at2 .ensures ∙ ap (λ (j : ℕ). ringOf s .at j) (e .before .next .ensures ∙ next-inner _ _ (rw (add-one (g .i)) at h)));
+    }
+
+-- every edge passed
+done : (c : tie.After-loop Inv-loop μ-loop) →
+    let s = c .before .before .before in
+    Scan (ringOf s) (pointOf s) (ring (s .args .l .now) .size) (ring (s .args .l .now) .size) (c .before .loop .odd)
+done c =
+    let s = c .before .before .before in
+    let v = c .before .loop .inv .scan in
+    let e = size s in
+    let u = v .upto in
+    let f : c .before .loop .i ≡ ring (s .args .l .now) .size = omega arith in
+    subst (λ (n : ℕ). Scan (ringOf s) (pointOf s) n (ring (s .args .l .now) .size) (c .before .loop .odd)) e (subst (λ (i : ℕ). Scan (ringOf s) (pointOf s) (s .args .n) i (c .before .loop .odd)) f v)
 
 returns-2 : tie.Need-returns-2 Inv-loop μ-loop
-returns-2 c = rw (← (toZ-ofZ (c .before .before .before .fits .d)), ← (toZ-ofZ (c .before .before .before .fits .px)), ← (toZ-ofZ (c .before .before .before .fits .py))) (in-place _ _ (subst (Scan (ringOf (c .before .before .before)) (pointOf (c .before .before .before)) (ring (c .before .before .before .args .l .now) .size) (ring (c .before .before .before .args .l .now) .size)) (c .if2 .taken) (done (c .before))))
+returns-2 c =
+    let s = c .before .before .before .before in
+    rw (← (toZ-ofZ (s .fits .d)), ← (toZ-ofZ (s .fits .px)), ← (toZ-ofZ (s .fits .py))) (in-place _ _ (subst (Scan (ringOf s) (pointOf s) (ring (s .args .l .now) .size) (ring (s .args .l .now) .size)) (c .if2 .taken) (done (c .before))))
 
 returns-3 : tie.Need-returns-3 Inv-loop μ-loop
-returns-3 c = rw (← (toZ-ofZ (c .before .before .before .fits .d)), ← (toZ-ofZ (c .before .before .before .fits .px)), ← (toZ-ofZ (c .before .before .before .fits .py))) (out-place _ _ (subst (Scan (ringOf (c .before .before .before)) (pointOf (c .before .before .before)) (ring (c .before .before .before .args .l .now) .size) (ring (c .before .before .before .args .l .now) .size)) (c .if2 .left) (done (c .before))))
+returns-3 c =
+    let s = c .before .before .before .before in
+    rw (← (toZ-ofZ (s .fits .d)), ← (toZ-ofZ (s .fits .px)), ← (toZ-ofZ (s .fits .py))) (out-place _ _ (subst (Scan (ringOf s) (pointOf s) (ring (s .args .l .now) .size) (ring (s .args .l .now) .size)) (c .if2 .left) (done (c .before))))
 
 pub place-at-spec : {M : Type 1} → statement M
 place-at-spec =
@@ -88,11 +170,13 @@ place-at-spec =
     (tie.spec
     Inv-loop
     μ-loop
+    corner-at-requires
     loop-holds
     next-requires
-    on-at-requires
+    corner-at-requires-2
+    is-on-requires
     returns
-    counted-at-requires
+    is-counted-requires
     differ-requires
     add-i
     loop-less
