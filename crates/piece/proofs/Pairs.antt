@@ -1,14 +1,15 @@
 -- All pairs of edges that are not neighbours, row by row. Assumes nothing.
 use mathlib.Core.Path.{_≡_}
-use mathlib.Core.Bool.{Bool, true, false}
-use mathlib.Core.Logic.{_⊎_, inl, inr, ⊎-elim}
+use mathlib.Core.Bool.{true, false}
+use mathlib.Core.Logic.{inl, inr, ⊎-elim}
 use Prim.Native.Nat.{ℕ, _+_, _≤_, _<_}
 use native.Mathlib.Omega.{arith}
 use Rattle.whole.proofs.Order.{ℕ-or}
 use Rattle.rules.specs.Ring.{Ring, next, from, to, Neighbours}
 use Rattle.rules.specs.Good.{Meet}
 use Rattle.rules.proofs.Ring.{next-ways}
-use Rattle.piece.specs.Shape.{Ends, shares}
+use Rattle.piece.specs.Shape.{Ends}
+pub use Rattle.piece.specs.Shape.{meets}
 use Rattle.piece.proofs.Decide.{yes, no}
 use Rattle.piece.proofs.Shape.{shares-decides}
 
@@ -34,10 +35,6 @@ pair-parted n i j e d h k f = (far, near)
 
     near : j < e
     near = ⊎-elim (λ w. ⊎-elim (λ (l : e ≤ j). absurd (f (inr (⊎-elim (λ v. absurd (omega arith)) (λ v. omega arith) (next-ways n j k))))) (λ (l : j < e). l) (ℕ-or e j)) (λ w. omega arith) d
-
--- the flag of edges i and j
-abbrev pub meets : Ring → ℕ → ℕ → Bool
-meets r i j = shares (from r i) (to r i) (from r j) (to r j)
 
 module _ (r : Ring) (i e : ℕ) (d : Ends (r .size) i e) where
   pub hit : (j : ℕ) → i + 2 ≤ j → j < e → meets r i j ≡ true → Meet r i j

@@ -5,4 +5,5 @@ pub mod Tells
 pub mod Decide
 pub mod Steps
 pub mod Shape
+pub mod Table
 pub mod Place

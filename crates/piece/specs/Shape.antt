@@ -3,18 +3,19 @@ use mathlib.Core.Path.{_≡_}
 use mathlib.Core.Bool.{Bool, not, cond, _&&_, _||_}
 use mathlib.Core.List.{List}
 use mathlib.Core.Logic.{_⊎_}
-use Prim.Native.Nat.{ℕ, _+_, _*_, _-_, _<_}
+use Prim.Native.Nat.{ℕ, _+_, _*_, _-_, _≤_, _<_}
 use lib.Dec.{eqb, ltb}
 use lib.IntN.{ℤ, pos}
 use lib.ListN.{length, getD}
 use lib.Signed.{leZ, ltZ}
 use Rattle.rules.specs.Reach.{Reach, Corners}
-use Rattle.rules.specs.Ring.{Pt, Ring, ring, to, On}
+use Rattle.rules.specs.Ring.{Pt, Ring, ring, from, to, On}
 use Rattle.rules.specs.Refusal.{First}
 use Rattle.rules.specs.Good.{Same, FirstMeet, Meet, area}
 use Rattle.rules.proofs.Segment.{o}
 use Rattle.decide.specs.Touch.{least, most, sameSide}
 use Rattle.piece.specs.Decide.{Seeks}
+use Rattle.piece.specs.Table.{AllBoxed}
 use Rattle.piece.specs.declared.good.Outline.{Outline}
 use Rattle.piece.specs.declared.good.Outline.the-variants.{Beyond, Drawn}
 use Rattle.piece.specs.declared.good.Meeting.{Meeting}
@@ -87,6 +88,17 @@ Outlined l (Drawn e f twice) = Drawing l e f twice
 -- the edges after edge i that are not its neighbours end before e: edge 0 has the last for a neighbour
 abbrev pub Ends : ℕ → ℕ → ℕ → Type 0
 Ends n i e = ((i ≡ 0) × (e + 1 ≡ n)) ⊎ ((0 < i) × (e ≡ n))
+
+-- n corners within reach, and a table of their edges' boxes
+pub record Tabled (l t : List ℤ) (n : ℕ) : Type 0 where
+  pub held : Holds l n
+  pub corners : (j : ℕ) → j < n → Corner l j
+  pub room : 4 * n ≤ length t
+  pub boxed : AllBoxed (ring l) t n
+
+-- the edges i and j share a point
+abbrev pub meets : Ring → ℕ → ℕ → Bool
+meets r i j = shares (from r i) (to r i) (from r j) (to r j)
 
 abbrev pub Met : Ring → Meeting → Type 0
 Met r Nowhere = (i j : ℕ) → Meet r i j → ⊥

@@ -1,21 +1,23 @@
 // The checks of a footprint, in their order.
+use crate::extent::apart;
+use crate::extent::fill;
 use crate::number::reaches;
+use crate::ring::aside;
 use crate::ring::bends;
 use crate::ring::equal;
 use crate::ring::next;
-use crate::ring::shares;
 use crate::ring::wedge;
 use refusal::Checked;
 use refusal::Refusal;
 ghost use mathlib.Core.Path.{_≡_};
 ghost use mathlib.Core.Bool.{true};
 ghost use Prim.Native.Nat.{ℕ, _+_, _*_, _-_, _<_};
-ghost use Rattle.rules.specs.Reach.{Corners, Reach};
+ghost use Rattle.rules.specs.Reach.{Corners};
 ghost use Rattle.rules.specs.Ring.{ring};
 ghost use Rattle.rules.specs.Good.{Sized, Meet, shapeChecks, footprintChecks};
 ghost use Rattle.refusal.specs.Said.{Finds};
 ghost use Rattle.piece.specs.Decide.{Decides, Seeks};
-ghost use Rattle.piece.specs.Shape.{Holds, Corner, Stray, marked, Drawing, Outlined, Ends, Met, bends};
+ghost use Rattle.piece.specs.Shape.{Holds, Corner, Stray, marked, Drawing, Outlined, Ends, Tabled, meets, Met, bends};
 
 // What one pass over the corners finds: a number out of reach, or the first corner that equals the next, the first with a fold (the corners' count where there is none), and twice the area.
 enum Outline {
@@ -119,16 +121,31 @@ fn end(n: usize, i: usize) -> usize
     if i == 0 { n - 1 } else { n }
 }
 
+// Whether the edges i and j share a point: most pairs are told apart by their boxes.
+fn shares(l: &[i32], t: &[i16], n: usize, i: usize, j: usize) -> bool
+    requires { ⌜ Tabled (now l) (now t) n × ((i < n) × (j < n)) ⌝ }
+    ensures { λ r. ⌜ r ≡ meets (ring (now (l .entry))) i j ⌝ }
+{
+    if apart(t, i, j) {
+        return false;
+    }
+    let k = next(n, i);
+    let m = next(n, j);
+    if aside(l, i, k, j, m) {
+        return false;
+    }
+    !aside(l, j, m, i, k)
+}
+
 // The first edge that edge i meets, or n. Its neighbours are left out.
-fn row(l: &[i32], n: usize, i: usize) -> usize
-    requires { ⌜ Holds (now l) n × ((i < n) × ((j : ℕ) → j < n → Corner (now l) j)) ⌝ }
+fn row(l: &[i32], t: &[i16], n: usize, i: usize) -> usize
+    requires { ⌜ Tabled (now l) (now t) n × (i < n) ⌝ }
     ensures { λ r. ⌜ Seeks (Meet (ring (now (l .entry))) i) n r ⌝ }
 {
-    let k = next(n, i);
     let end = end(n, i);
     let mut j = i + 2;
     while j < end {
-        if shares(l, i, k, j, next(n, j)) {
+        if shares(l, t, n, i, j) {
             return j;
         }
         j += 1;
@@ -136,19 +153,29 @@ fn row(l: &[i32], n: usize, i: usize) -> usize
     n
 }
 
-fn first_meet(l: &[i32], n: usize) -> Meeting
-    requires { ⌜ Holds (now l) n × ((j : ℕ) → j < n → Corner (now l) j) ⌝ }
+// The same of all edges.
+fn rows(l: &[i32], t: &[i16], n: usize) -> Meeting
+    requires { ⌜ Tabled (now l) (now t) n ⌝ }
     ensures { λ r. ⌜ Met (ring (now (l .entry))) r ⌝ }
 {
     let mut i = 0;
     while i < n {
-        let j = row(l, n, i);
+        let j = row(l, t, n, i);
         if j < n {
             return Meeting::At(i, j);
         }
         i += 1;
     }
     Meeting::Nowhere
+}
+
+fn first_meet(l: &[i32], n: usize) -> Meeting
+    requires { ⌜ Holds (now l) n × ((j : ℕ) → j < n → Corner (now l) j) ⌝ }
+    ensures { λ r. ⌜ Met (ring (now (l .entry))) r ⌝ }
+{
+    let mut t = [0i16; 256];
+    fill(l, n, &mut t);
+    rows(l, &t, n)
 }
 
 // What a drawing says, and the edges' meetings.

@@ -9,6 +9,7 @@ ghost use Rattle.piece.specs.Numbers.{runOf, pieceOf};
 ghost use Rattle.piece.specs.Place.{pt, Lies};
 ghost use Rattle.piece.specs.Tells.{Tells};
 
+mod extent;
 mod good;
 mod motion;
 mod number;

@@ -5,6 +5,8 @@ ghost use Prim.Native.Nat.{_<_};
 ghost use lib.IntN.{pos, _-ℤ_, _*ℤ_};
 ghost use lib.Signed.{ltZ, leZ};
 ghost use lib.ListN.{length, getD};
+ghost use mir.Syntax.{w16};
+ghost use mir.Val.{SFits};
 ghost use Rattle.rules.specs.Reach.{Reach, Speed};
 ghost use Rattle.rules.proofs.Segment.{side};
 ghost use Rattle.decide.specs.Touch.{least, most, sameSide};
@@ -30,6 +32,14 @@ pub(crate) fn at(l: &[i32], k: usize) -> i64
     ensures { λ r. ⌜ r ≡ getD (now (l .entry)) k (pos 0) ⌝ }
 {
     l[k] as i64
+}
+
+// A number of 16 bits.
+pub(crate) fn narrow(z: i64) -> i16
+    requires { ⌜ SFits w16 z ⌝ }
+    ensures { λ r. ⌜ r ≡ z ⌝ }
+{
+    z as i16
 }
 
 pub(crate) fn less(u: i64, v: i64) -> bool

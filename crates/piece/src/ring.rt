@@ -14,7 +14,7 @@ ghost use Prim.Native.Nat.{_*_, _+_, _<_};
 ghost use lib.IntN.{_-ℤ_, _*ℤ_};
 ghost use Rattle.rules.specs.Ring.{ring, next};
 ghost use Rattle.rules.proofs.Segment.{o};
-ghost use Rattle.piece.specs.Shape.{Corner, equal, parted, boxes, aside, shares, bends};
+ghost use Rattle.piece.specs.Shape.{Corner, equal, parted, boxes, aside, bends};
 
 // The number after i around a ring of n.
 pub(crate) fn next(n: usize, i: usize) -> usize
@@ -79,25 +79,11 @@ fn boxes(l: &[i32], i: usize, k: usize, j: usize, m: usize) -> bool
 }
 
 // Whether the edge j m lies strictly on one side of the line of i k.
-fn aside(l: &[i32], i: usize, k: usize, j: usize, m: usize) -> bool
+pub(crate) fn aside(l: &[i32], i: usize, k: usize, j: usize, m: usize) -> bool
     requires { ⌜ (Corner (now l) i × Corner (now l) k) × (Corner (now l) j × Corner (now l) m) ⌝ }
     ensures { λ r. ⌜ r ≡ aside (ring (now (l .entry)) .at i) (ring (now (l .entry)) .at k) (ring (now (l .entry)) .at j) (ring (now (l .entry)) .at m) ⌝ }
 {
     same_side(turn(l, i, k, j), turn(l, i, k, m))
-}
-
-// Whether the edges i k and j m share a point: most pairs are told apart by their boxes.
-pub(crate) fn shares(l: &[i32], i: usize, k: usize, j: usize, m: usize) -> bool
-    requires { ⌜ (Corner (now l) i × Corner (now l) k) × (Corner (now l) j × Corner (now l) m) ⌝ }
-    ensures { λ r. ⌜ r ≡ shares (ring (now (l .entry)) .at i) (ring (now (l .entry)) .at k) (ring (now (l .entry)) .at j) (ring (now (l .entry)) .at m) ⌝ }
-{
-    if boxes(l, i, k, j, m) {
-        return false;
-    }
-    if aside(l, i, k, j, m) {
-        return false;
-    }
-    !aside(l, j, m, i, k)
 }
 
 // Whether an outer end of the edges h i and i k lies on the other edge: three corners are seldom in line.

@@ -1,0 +1,76 @@
+-- `good::shares` is what it says. Assumes nothing.
+use mathlib.Core.Path.{_≡_, sym, ap, _∙_}
+use Prim.Native.Nat.{ℕ}
+use Rattle.rules.specs.Ring.{ring, next, from, to}
+use Rattle.rules.proofs.Ring.{next-below}
+use Rattle.piece.specs.Shape.{boxes, aside}
+use Rattle.piece.proofs.Outline.{size-of}
+use Rattle.piece.proofs.Table.{boxed-apart}
+use borrow.Author.Needs.{needs}
+use Rattle.piece.proofs.good.shares.Statement.{statement}
+use Rattle.piece.proofs.good.shares.Tie as tie
+
+-- what the tests say of the two edges
+box : (c : tie.After-apart) →
+    let r = ring (c .before .args .l .now) in
+    c .apart .result ≡ boxes (from r (c .before .args .i)) (to r (c .before .args .i)) (from r (c .before .args .j)) (to r (c .before .args .j))
+box c = let s = c .before in c .apart .ensures ∙ boxed-apart _ _ _ _ (s .pre .0 .boxed _ (s .pre .1 .0)) (s .pre .0 .boxed _ (s .pre .1 .1))
+
+-- the edges' far ends
+ends-i : (c : tie.After-next) → let s = c .before .before .before in c .next .result ≡ next (ring (s .args .l .now) .size) (s .args .i)
+ends-i c = let s = c .before .before .before in c .next .ensures ∙ ap (λ (n : ℕ). next n (s .args .i)) (size-of (s .pre .0 .held))
+
+ends-j : (c : tie.After-next2) → let s = c .before .before .before .before in c .next2 .result ≡ next (ring (s .args .l .now) .size) (s .args .j)
+ends-j c = let s = c .before .before .before .before in c .next2 .ensures ∙ ap (λ (n : ℕ). next n (s .args .j)) (size-of (s .pre .0 .held))
+
+side-i : (c : tie.After-aside) →
+    let s = c .before .before .before .before .before in
+    let r = ring (s .args .l .now) in
+    c .aside .result ≡ aside (from r (s .args .i)) (to r (s .args .i)) (from r (s .args .j)) (to r (s .args .j))
+side-i c = c .aside .ensures ∙ rw (ends-i (c .before .before), ends-j (c .before))
+
+side-j : (c : tie.After-aside2) →
+    let s = c .before .before .before .before .before .before .before in
+    let r = ring (s .args .l .now) in
+    c .aside2 .result ≡ aside (from r (s .args .j)) (to r (s .args .j)) (from r (s .args .i)) (to r (s .args .i))
+side-j c = c .aside2 .ensures ∙ rw (ends-i (c .before .before .before .before), ends-j (c .before .before .before))
+
+apart-requires : tie.Need-apart-requires
+apart-requires c κs = search needs
+
+returns : tie.Need-returns
+returns c = rw (sym (box (c .before)) ∙ c .if1 .taken)
+
+next-requires : tie.Need-next-requires
+next-requires c κs = search needs
+
+next-requires-2 : tie.Need-next-requires-2
+next-requires-2 c κs = search needs
+
+aside-requires : tie.Need-aside-requires
+aside-requires c κs =
+    let p = c .before .before .before .before .pre in
+    let all = p .0 .corners in
+    ((all _ (p .1 .0), rw (c .before .next .ensures) (all _ (next-below _ _ (p .1 .0)))), (all _ (p .1 .1), rw (c .next2 .ensures) (all _ (next-below _ _ (p .1 .1)))))
+
+returns-2 : tie.Need-returns-2
+returns-2 c = rw (sym (box (c .before .before .before .before .before)) ∙ c .before .before .before .before .if1 .left, sym (side-i (c .before)) ∙ c .if2 .taken)
+
+aside-requires-2 : tie.Need-aside-requires-2
+aside-requires-2 c κs = let h = aside-requires (c .before .before) κs in (h .1, h .0)
+
+returns-3 : tie.Need-returns-3
+returns-3 c = rw (sym (box (c .before .before .before .before .before .before)) ∙ c .before .before .before .before .before .if1 .left, sym (side-i (c .before .before)) ∙ c .before .if2 .left, side-j c)
+
+pub shares-spec : {M : Type 1} → statement M
+shares-spec =
+    tie.close
+    (tie.spec
+    apart-requires
+    returns
+    next-requires
+    next-requires-2
+    aside-requires
+    returns-2
+    aside-requires-2
+    returns-3)
