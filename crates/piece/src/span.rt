@@ -3,7 +3,9 @@
 ghost use mathlib.Core.Path.{_≡_};
 ghost use mathlib.Core.Bool.{true};
 ghost use lib.IntN.{pos, _*ℤ_};
-ghost use lib.Signed.{quotZ};
+ghost use lib.Signed.{quotZ, ltZ};
+ghost use mir.Syntax.{w64};
+ghost use mir.Val.{SFits};
 ghost use Rattle.decide.specs.Span.{raise, lower, none, clip, some, first};
 ghost use Rattle.piece.specs.Moving.{spanOf, Crossed, Small, Slope, MarkSteps};
 
@@ -15,12 +17,20 @@ pub(crate) struct Span {
     pub(crate) high_d: i64,
 }
 
+// Whether the moment n/d is before m/e.
+fn sooner(n: i64, d: i64, m: i64, e: i64) -> bool
+    requires { ⌜ SFits w64 (n *ℤ e) × SFits w64 (m *ℤ d) ⌝ }
+    ensures { λ r. ⌜ r ≡ ltZ (n *ℤ e) (m *ℤ d) ⌝ }
+{
+    n * e < m * d
+}
+
 // Not before n/d.
 fn raise(s: Span, n: i64, d: i64) -> Span
     requires { ⌜ Crossed (spanOf s) n d ⌝ }
     ensures { λ r. ⌜ spanOf r ≡ raise (spanOf s) n d ⌝ }
 {
-    if s.low_n * d < n * s.low_d {
+    if sooner(s.low_n, s.low_d, n, d) {
         Span {
             low_n: n,
             low_d: d,
@@ -37,7 +47,7 @@ fn lower(s: Span, n: i64, d: i64) -> Span
     requires { ⌜ Crossed (spanOf s) n d ⌝ }
     ensures { λ r. ⌜ spanOf r ≡ lower (spanOf s) n d ⌝ }
 {
-    if n * s.high_d < s.high_n * d {
+    if sooner(n, d, s.high_n, s.high_d) {
         Span {
             low_n: s.low_n,
             low_d: s.low_d,
