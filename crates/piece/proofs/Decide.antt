@@ -2,7 +2,7 @@
 use mathlib.Core.Path.{_≡_, refl, sym, subst}
 use mathlib.Core.Bool.{Bool, true, false, not}
 use mathlib.Core.Logic.{⊎-elim}
-use Prim.Native.Nat.{ℕ, _+_, _^_, _≤_, _<_}
+use Prim.Native.Nat.{ℕ, zero, suc, _+_, _-_, _^_, _≤_, _<_}
 use native.Mathlib.Omega.{arith}
 use lib.IntN.{ℤ}
 use lib.Signed.{leZ, mag}
@@ -65,6 +65,18 @@ stop Bad n k h b = record { before = λ j l i. h j l; found = λ l. b }
 
 pub passed : (Bad : ℕ → Type 0) (n : ℕ) → Below Bad n → Seeks Bad n n
 passed Bad n h = record { before = λ j l i. h j l; found = λ l. absurd (omega arith) }
+
+pub of-three : (P : ℕ → Type 0) → P 0 → P 1 → P 2 → (j : ℕ) → j < 3 → P j
+of-three P a b c zero l = a
+of-three P a b c (suc zero) l = b
+of-three P a b c (suc (suc zero)) l = c
+of-three P a b c (suc (suc (suc j))) l = absurd (omega arith)
+
+-- a search goes on, from m, by another: k more are passed
+pub onward : (Bad Evil : ℕ → Type 0) (m n r : ℕ) → Below Bad m → ((j : ℕ) → j < n → Bad (m + j) → Evil j) → Seeks Evil n r → (k : ℕ) → k ≤ r → k ≤ n → Below Bad (m + k)
+onward Bad Evil m n r h f s k a b j l e =
+    ⊎-elim (λ (i : m ≤ j). let q : j ≡ m + (j - m) = omega arith in s .before (j - m) (omega arith) (omega arith) (f (j - m) (omega arith) (subst Bad q e))) (λ (i : j < m). h j i e)
+    (ℕ-or m j)
 
 -- ---- a test of signed numbers, as its caller reads them back
 pub taken : (P : ℤ → Type 0) (w : Width) (z : ℤ) (t : Bool) → mag z < 2 ^ hbits w → Decides (P (toZ w (ofZ w z))) t → not t ≡ false → P z

@@ -8,31 +8,53 @@ ghost use lib.Signed.{_≤ℤ_};
 ghost use Rattle.rules.specs.Reach.{Reach};
 ghost use Rattle.piece.specs.Decide.{Decides, Seeks};
 ghost use Rattle.rules.specs.Place.{pointNumber};
-ghost use Rattle.piece.specs.Numbers.{runOf, pieceOf};
+ghost use Rattle.piece.specs.Numbers.{runOf, pieceOf, speedNumber};
 ghost use Rattle.piece.specs.Place.{pt};
 ghost use mathlib.Core.List.{[]};
+
+// The first of a point's two numbers.
+pub(crate) fn point_fault(x: i32, y: i32) -> usize
+    ensures { λ r. ⌜ Seeks (λ j. pointNumber (pt x y) j → ⊥) 2 r ⌝ }
+{
+    if !reaches(x) {
+        return 0;
+    }
+    if !reaches(y) {
+        return 1;
+    }
+    2
+}
+
+// The first of a velocity's three numbers.
+fn speed_fault(x: i32, y: i32, z: i32) -> usize
+    ensures { λ r. ⌜ Seeks (λ j. speedNumber x y z j → ⊥) 3 r ⌝ }
+{
+    if !speeds(x) {
+        return 0;
+    }
+    if !speeds(y) {
+        return 1;
+    }
+    if !speeds(z) {
+        return 2;
+    }
+    3
+}
 
 // The first number of a run that is not taken, of seven.
 pub(crate) fn run_fault(run: Run) -> usize
     ensures { λ r. ⌜ Seeks (λ j. runNumber (runOf run) j → ⊥) 7 r ⌝ }
 {
-    if !reaches(run.x) {
-        return 0;
-    }
-    if !reaches(run.y) {
-        return 1;
+    let k = point_fault(run.x, run.y);
+    if k < 2 {
+        return k;
     }
     if !reaches(run.z) {
         return 2;
     }
-    if !speeds(run.vx) {
-        return 3;
-    }
-    if !speeds(run.vy) {
-        return 4;
-    }
-    if !speeds(run.vz) {
-        return 5;
+    let s = speed_fault(run.vx, run.vy, run.vz);
+    if s < 3 {
+        return 3 + s;
     }
     if 4096 < run.ticks {
         return 6;
@@ -57,27 +79,9 @@ pub(crate) fn band_fault(band: Band) -> usize
     if !tops(band.bottom, band.top) {
         return 1;
     }
-    if !speeds(band.vx) {
-        return 2;
-    }
-    if !speeds(band.vy) {
-        return 3;
-    }
-    if !speeds(band.vz) {
-        return 4;
+    let s = speed_fault(band.vx, band.vy, band.vz);
+    if s < 3 {
+        return 2 + s;
     }
     5
-}
-
-// The first of a point's two numbers.
-pub(crate) fn point_fault(x: i32, y: i32) -> usize
-    ensures { λ r. ⌜ Seeks (λ j. pointNumber (pt x y) j → ⊥) 2 r ⌝ }
-{
-    if !reaches(x) {
-        return 0;
-    }
-    if !reaches(y) {
-        return 1;
-    }
-    2
 }

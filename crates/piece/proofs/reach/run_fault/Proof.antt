@@ -1,78 +1,95 @@
 -- `reach::run_fault` finds the first number of a run that is not taken. Assumes nothing.
-use Prim.Native.Nat.{ℕ}
+use Prim.Native.Nat.{ℕ, zero, suc, _+_, _<_}
 use native.Mathlib.Omega.{arith}
 use borrow.Author.Needs.{needs}
 use mir.Syntax.{w32}
-use Rattle.rules.specs.Reach.{Reach, Speed}
+use Rattle.whole.proofs.Range.{field}
+use Rattle.rules.specs.Reach.{Run, Reach}
 use Rattle.rules.specs.Good.{runNumber}
-use Rattle.piece.specs.Numbers.{runOf}
-use Rattle.piece.proofs.Decide.{Below, none-yet, one-more, stop, passed, taken, rejected}
+use Rattle.rules.specs.Place.{pointNumber}
+use Rattle.piece.specs.Decide.{Seeks}
+use Rattle.piece.specs.Numbers.{runOf, speedNumber}
+use Rattle.piece.specs.Place.{pt}
+use Rattle.piece.proofs.Decide.{none-found, Below, one-more, stop, passed, of-three, onward, taken, rejected}
 use Rattle.piece.proofs.reach.run_fault.Statement.{statement}
 use Rattle.piece.proofs.reach.run_fault.Tie as tie
 
-abbrev Bad : tie.Start → ℕ → Type 0
-Bad s j = runNumber (runOf (s .args .run)) j → ⊥
+abbrev Bad : Run → ℕ → Type 0
+Bad r j = runNumber r j → ⊥
+
+abbrev BadPoint : Run → ℕ → Type 0
+BadPoint r j = pointNumber (pt (r .start .x) (r .start .y)) j → ⊥
+
+abbrev BadSpeed : Run → ℕ → Type 0
+BadSpeed r j = speedNumber (r .speed .x) (r .speed .y) (r .speed .z) j → ⊥
+
+-- the first two numbers are a point's, and from 3 on there are a velocity's
+of-point : (r : Run) (j : ℕ) → j < 2 → (Bad r j → BadPoint r j) × (BadPoint r j → Bad r j)
+of-point r zero l = (λ b. b, λ b. b)
+of-point r (suc zero) l = (λ b. b, λ b. b)
+of-point r (suc (suc j)) l = absurd (omega arith)
+
+of-speed : (r : Run) (j : ℕ) → j < 3 → (Bad r (3 + j) → BadSpeed r j) × (BadSpeed r j → Bad r (3 + j))
+of-speed r = of-three (λ j. (Bad r (3 + j) → BadSpeed r j) × (BadSpeed r j → Bad r (3 + j))) (λ b. b, λ b. b) (λ b. b, λ b. b) (λ b. b, λ b. b)
+
+abbrev run : tie.Start → Run
+run s = runOf (s .args .run)
+
+point : (c : tie.After-point-fault) → Seeks (BadPoint (run (c .before .before .before))) 2 (c .point-fault .result)
+point c = let r = c .before .before .before .args .run in rw (field w32 (r .x) (omega arith), field w32 (r .y) (omega arith)) at (c .point-fault .ensures)
+
+speed : (c : tie.After-speed-fault) → Seeks (BadSpeed (run (c .before .before .before .before .before .before .before .before .before .before .before))) 3 (c .speed-fault .result)
+speed c = let r = c .before .before .before .before .before .before .before .before .before .before .before .args .run in rw (field w32 (r .vx) (omega arith), field w32 (r .vy) (omega arith), field w32 (r .vz) (omega arith)) at (c .speed-fault .ensures)
 
 -- the numbers passed after each test
-past1 : (c : tie.Else1) → Below (Bad (c .before .before .before)) 1
-past1 c = one-more _ 0 (none-yet _) (λ f. f (taken Reach w32 _ (c .before .reaches .result) (omega arith) (c .before .reaches .ensures) (c .if1 .left)))
+past2 : (c : tie.Else1) → Below (Bad (run (c .before .before .before .before))) 2
+past2 c j l b = none-found (point (c .before)) (omega arith) j l (of-point _ j l .0 b)
 
-past2 : (c : tie.Else2) → Below (Bad (c .before .before .before .before .before .before)) 2
-past2 c = one-more _ 1 (past1 (c .before .before .before)) (λ f. f (taken Reach w32 _ (c .before .reaches2 .result) (omega arith) (c .before .reaches2 .ensures) (c .if2 .left)))
+past3 : (c : tie.Else2) → Below (Bad (run (c .before .before .before .before .before .before .before))) 3
+past3 c = one-more _ 2 (past2 (c .before .before .before)) (λ f. f (taken Reach w32 _ (c .before .reaches .result) (omega arith) (c .before .reaches .ensures) (c .if2 .left)))
 
-past3 : (c : tie.Else3) → Below (Bad (c .before .before .before .before .before .before .before .before .before)) 3
-past3 c = one-more _ 2 (past2 (c .before .before .before)) (λ f. f (taken Reach w32 _ (c .before .reaches3 .result) (omega arith) (c .before .reaches3 .ensures) (c .if3 .left)))
+past6 : (c : tie.Else3) → Below (Bad (run (c .before .before .before .before .before .before .before .before .before .before .before .before))) 6
+past6 c = onward _ _ 3 3 _ (past3 (c .before .before .before .before .before)) (λ j l. of-speed _ j l .0) (speed (c .before)) 3 (omega arith) (omega arith)
 
-past4 : (c : tie.Else4) → Below (Bad (c .before .before .before .before .before .before .before .before .before .before .before .before)) 4
-past4 c = one-more _ 3 (past3 (c .before .before .before)) (λ f. f (taken Speed w32 _ (c .before .speeds .result) (omega arith) (c .before .speeds .ensures) (c .if4 .left)))
+point-fault-requires : tie.Need-point-fault-requires
+point-fault-requires c κs = search needs
 
-past5 : (c : tie.Else5) → Below (Bad (c .before .before .before .before .before .before .before .before .before .before .before .before .before .before .before)) 5
-past5 c = one-more _ 4 (past4 (c .before .before .before)) (λ f. f (taken Speed w32 _ (c .before .speeds2 .result) (omega arith) (c .before .speeds2 .ensures) (c .if5 .left)))
-
-past6 : (c : tie.Else6) → Below (Bad (c .before .before .before .before .before .before .before .before .before .before .before .before .before .before .before .before .before .before)) 6
-past6 c = one-more _ 5 (past5 (c .before .before .before)) (λ f. f (taken Speed w32 _ (c .before .speeds3 .result) (omega arith) (c .before .speeds3 .ensures) (c .if6 .left)))
+returns : tie.Need-returns
+returns c = let s = point (c .before) in
+    stop _ 7 _ (λ j l b. s .before j l (omega arith) (of-point _ j (omega arith) .0 b)) (of-point _ _ (c .if1 .taken) .1 (s .found (c .if1 .taken)))
 
 reaches-requires : tie.Need-reaches-requires
 reaches-requires c κs = search needs
 
-returns : tie.Need-returns
-returns c = stop _ 7 0 (none-yet _) (rejected Reach w32 _ (c .before .reaches .result) (omega arith) (c .before .reaches .ensures) (c .if1 .taken))
-
-reaches-requires-2 : tie.Need-reaches-requires-2
-reaches-requires-2 c κs = search needs
-
 returns-2 : tie.Need-returns-2
-returns-2 c = stop _ 7 1 (past1 (c .before .before .before)) (rejected Reach w32 _ (c .before .reaches2 .result) (omega arith) (c .before .reaches2 .ensures) (c .if2 .taken))
+returns-2 c = stop _ 7 2 (past2 (c .before .before .before)) (rejected Reach w32 _ (c .before .reaches .result) (omega arith) (c .before .reaches .ensures) (c .if2 .taken))
 
-reaches-requires-3 : tie.Need-reaches-requires-3
-reaches-requires-3 c κs = search needs
+speed-fault-requires : tie.Need-speed-fault-requires
+speed-fault-requires c κs = search needs
+
+add-result : tie.Need-add-result
+add-result c = search needs
 
 returns-3 : tie.Need-returns-3
-returns-3 c = stop _ 7 2 (past2 (c .before .before .before)) (rejected Reach w32 _ (c .before .reaches3 .result) (omega arith) (c .before .reaches3 .ensures) (c .if3 .taken))
-
-speeds-requires : tie.Need-speeds-requires
-speeds-requires c κs = search needs
+returns-3 c = let s = speed (c .before) in
+    stop _ 7 _ (onward _ _ 3 3 _ (past3 (c .before .before .before .before .before)) (λ j l. of-speed _ j l .0) s _ (omega arith) (omega arith)) (of-speed _ _ (c .if3 .taken) .1 (s .found (c .if3 .taken)))
 
 returns-4 : tie.Need-returns-4
-returns-4 c = stop _ 7 3 (past3 (c .before .before .before)) (rejected Speed w32 _ (c .before .speeds .result) (omega arith) (c .before .speeds .ensures) (c .if4 .taken))
-
-speeds-requires-2 : tie.Need-speeds-requires-2
-speeds-requires-2 c κs = search needs
+returns-4 c = stop _ 7 6 (past6 (c .before .before)) (λ h. omega arith)
 
 returns-5 : tie.Need-returns-5
-returns-5 c = stop _ 7 4 (past4 (c .before .before .before)) (rejected Speed w32 _ (c .before .speeds2 .result) (omega arith) (c .before .speeds2 .ensures) (c .if5 .taken))
-
-speeds-requires-3 : tie.Need-speeds-requires-3
-speeds-requires-3 c κs = search needs
-
-returns-6 : tie.Need-returns-6
-returns-6 c = stop _ 7 5 (past5 (c .before .before .before)) (rejected Speed w32 _ (c .before .speeds3 .result) (omega arith) (c .before .speeds3 .ensures) (c .if6 .taken))
-
-returns-7 : tie.Need-returns-7
-returns-7 c = stop _ 7 6 (past6 (c .before .before)) (λ h. omega arith)
-
-returns-8 : tie.Need-returns-8
-returns-8 c = passed _ 7 (one-more _ 6 (past6 (c .before .before)) (λ f. f (omega arith)))
+returns-5 c = passed _ 7 (one-more _ 6 (past6 (c .before .before)) (λ f. f (omega arith)))
 
 pub run-fault-spec : {M : Type 1} → statement M
-run-fault-spec = tie.close (tie.spec reaches-requires returns reaches-requires-2 returns-2 reaches-requires-3 returns-3 speeds-requires returns-4 speeds-requires-2 returns-5 speeds-requires-3 returns-6 returns-7 returns-8)
+run-fault-spec =
+    tie.close
+    (tie.spec
+    point-fault-requires
+    returns
+    reaches-requires
+    returns-2
+    speed-fault-requires
+    add-result
+    returns-3
+    returns-4
+    returns-5)
