@@ -122,6 +122,15 @@ returns c =
 is-counted-requires : tie.Need-is-counted-requires Inv-loop μ-loop
 is-counted-requires c κs = side-fits (c .before .before .before .before .before .before)
 
+counted : (c : tie.After-is-counted Inv-loop μ-loop) →
+    let e = c .before .before .before .before .before .before .before .before .before .before .before in
+    let g = e .before .before .before .loop in
+    let s = e .before .before .before .before .before in
+    c .is-counted .result ≡ crosses (from (ringOf s) (g .i)) (to (ringOf s) (g .i)) (pointOf s)
+counted c =
+    let k = c .before .before .before .before .before .before .before in
+    rw (c .is-counted .ensures) (same (λ a b. crosses a b (pointOf (k .before .before .before .before .before .before .before .before .before))) _ _ _ _ (ends k .0) (ends k .1))
+
 differ-requires : tie.Need-differ-requires Inv-loop μ-loop
 differ-requires c κs = tt
 
@@ -133,12 +142,11 @@ loop-less c = omega arith
 
 loop-again : tie.Need-loop-again Inv-loop μ-loop
 loop-again c =
-    let k = c .before .before .before .before .before .before .before .before in
-    let e = k .before .before .before .before in
+    let e = c .before .before .before .before .before .before .before .before .before .before .before .before in
     let g = e .before .before .before .loop in
     let s = e .before .before .before .before .before in
     record {
-      scan = rw (c .differ .ensures, c .before .is-counted .ensures ∙ same (λ a b. crosses a b (pointOf s)) _ _ _ _ (ends k .0) (ends k .1)) (scan-step _ _ _ _ _ (e .before .before .loop-test .taken) (g .inv .scan) (sym (said (c .before .before .before .before .before .before .before)) ∙ c .before .before .before .before .before .before .if1 .left));
+      scan = rw (c .differ .ensures, counted (c .before)) (scan-step _ _ _ _ _ (e .before .before .loop-test .taken) (g .inv .scan) (sym (said (c .before .before .before .before .before .before .before)) ∙ c .before .before .before .before .before .before .if1 .left));
       here = λ h. rw (add-one (g .i)) (e .corner-at2 .ensures ∙ ap (λ (j : ℕ). ringOf s .at j) (e .before .next .ensures ∙ next-inner _ _ (rw (add-one (g .i)) at h)));
     }
 
