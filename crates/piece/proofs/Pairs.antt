@@ -9,7 +9,7 @@ use Rattle.rules.specs.Ring.{Ring, next, from, to, Neighbours}
 use Rattle.rules.specs.Good.{Meet}
 use Rattle.rules.proofs.Ring.{next-ways}
 use Rattle.piece.specs.Shape.{Ends}
-pub use Rattle.piece.specs.Shape.{meets}
+use Rattle.piece.specs.Shape.{meets}
 use Rattle.piece.proofs.Decide.{yes, no}
 use Rattle.piece.proofs.Shape.{shares-decides}
 

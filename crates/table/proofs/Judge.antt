@@ -41,7 +41,7 @@ use Rattle.piece.specs.declared.motion.Verdict.{Verdict}
 use Rattle.piece.specs.declared.motion.Verdict.the-variants as verdict
 use Rattle.piece.proofs.Decide.{yes, no, truth, none-found, first-found, Below, none-yet, one-more}
 use Rattle.piece.proofs.Shape.{decides, and-yes, and-both, or-yes, or-left, or-right, shares-decides, equal-decides, bends-decides}
-use Rattle.piece.proofs.Pairs.{meets}
+use Rattle.piece.specs.Shape.{meets}
 use Rattle.piece.proofs.Finds.{found-stray, found-same, found-fold, found-meet, found-clockwise, found-good, footprint-finds, piece-finds, place-finds}
 
 -- ---- the first of several
