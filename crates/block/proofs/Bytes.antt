@@ -10,6 +10,7 @@ use lib.Seq.{getD-append-add, getD-set-same, getD-set-other, ext-getD}
 use Rattle.whole.proofs.Order.{ℕ-or}
 use Rattle.block.specs.Layout.{byte, sum, plainSum, weighedSum, filled, blockOf}
 use Rattle.block.specs.Reading.{Sealed}
+pub use Rattle.block.specs.Scan.{Alike}
 
 -- ---- zeros after the first bytes
 pub zeros-at : (n i : ℕ) → byte (replicate n 0) i ≡ 0
@@ -61,10 +62,6 @@ plain-below l = omega arith
 pub weighed-below : (l : List ℕ) → weighedSum l < 255
 unfolding weighedSum
 weighed-below l = omega arith
-
--- the first 510 bytes are the same
-abbrev pub Alike : List ℕ → List ℕ → Type 0
-Alike l m = (i : ℕ) → i < 510 → byte l i ≡ byte m i
 
 pub plain-same : (l m : List ℕ) → Alike l m → plainSum l ≡ plainSum m
 unfolding plainSum

@@ -5,7 +5,8 @@ pub mod Flags
 pub mod Found
 pub mod Headers
 pub mod Laid
-pub mod Parts
+pub mod Mid
+pub mod PartLaws
 pub mod PieceLaws
 pub mod RoundTrip
 pub mod RunLaws

@@ -1,6 +1,6 @@
 -- Two outcomes that both meet a public contract, answer and later bytes, are equal. Assumes nothing.
 use mathlib.Core.Path.{_≡_, refl, sym, ap, subst, _∙_}
-use mathlib.Core.List.{List}
+use mathlib.Core.List.{List, _++_}
 use Prim.Native.Nat.{ℕ}
 use lib.IntN.{ℤ}
 use Rattle.rules.specs.Reach as rules
@@ -24,14 +24,14 @@ use Rattle.block.specs.declared.HeaderRead.the-variants.{Count, NoHeader
 use Rattle.block.specs.declared.RunRead.{RunRead}
 use Rattle.block.specs.declared.RunRead.the-variants.{Found, NoRun}
 use Rattle.block.specs.declared.PieceRead.{PieceRead}
-use Rattle.block.specs.Layout.{words, headerBlock, runBlock, pieceBlock, blockOf}
-use Rattle.block.specs.Reading.{blockChecks, headerChecks, runBlockChecks, pieceBlockChecks, headerAsked, bytesAsked, wordsAsked, runAsked, pieceAsked, HeaderSays, RunIn, RunSays, Holds, PieceFound, PieceSays, Writes}
+use Rattle.block.specs.Layout.{words, headerBlock, runBlock, pieceBlock, blockOf, filled}
+use Rattle.block.specs.Reading.{blockChecks, headerChecks, runBlockChecks, pieceBlockChecks, headerAsked, bytesAsked, partsAsked, wordsAsked, runAsked, pieceAsked, HeaderSays, RunIn, RunSays, Holds, PieceFound, PieceSays, Writes}
 use Rattle.block.specs.Verdicts.{VerdictOn, verdictInChecks, VerdictInSays}
 use Rattle.block.proofs.Found.{refused-one}
 use Rattle.block.proofs.Headers.{header-passes, header-one}
 use Rattle.block.proofs.RunLaws as runs
 use Rattle.block.proofs.PieceLaws as pieces
-use Rattle.block.proofs.Sharp.{sharp-block, sharp-header, sharp-run-block, sharp-piece-block, sharp-verdict-in, sharp-bytes-asked, sharp-words-asked, sharp-header-asked, sharp-run-asked, sharp-piece-asked}
+use Rattle.block.proofs.Sharp.{sharp-block, sharp-header, sharp-run-block, sharp-piece-block, sharp-verdict-in, sharp-bytes-asked, sharp-parts-asked, sharp-words-asked, sharp-header-asked, sharp-run-asked, sharp-piece-asked}
 
 -- ---- check_block
 pub check-block-one : (l : List ℕ) (r s : Checked) → Finds (blockChecks l) r → Finds (blockChecks l) s → r ≡ s
@@ -46,6 +46,9 @@ writes-one cs h made before a b (Refused x) (Refused y) f g = (ap Refused (refus
 
 pub write-bytes-one : (front before a b : List ℕ) (r s : Checked) → Writes (bytesAsked before front) (blockOf front) before a r → Writes (bytesAsked before front) (blockOf front) before b s → (r ≡ s) × (a ≡ b)
 write-bytes-one front before a b r s = writes-one (bytesAsked before front) (sharp-bytes-asked before front) (blockOf front) before a b r s
+
+pub write-parts-one : (first last : List ℕ) (at : ℕ) (before a b : List ℕ) (r s : Checked) → Writes (partsAsked before first last at) (blockOf (filled at first ++ last)) before a r → Writes (partsAsked before first last at) (blockOf (filled at first ++ last)) before b s → (r ≡ s) × (a ≡ b)
+write-parts-one first last at before a b r s = writes-one (partsAsked before first last at) (sharp-parts-asked before first last at) (blockOf (filled at first ++ last)) before a b r s
 
 pub write-words-one : (numbers : List ℤ) (before a b : List ℕ) (r s : Checked) → Writes (wordsAsked before numbers) (words numbers) before a r → Writes (wordsAsked before numbers) (words numbers) before b s → (r ≡ s) × (a ≡ b)
 write-words-one numbers before a b r s = writes-one (wordsAsked before numbers) (sharp-words-asked before numbers) (words numbers) before a b r s

@@ -151,6 +151,10 @@ headerAsked l n = lengthCheck l ∷ demand (Pieces n) (refuse 3 5 0) ∷ []
 unfoldable pub bytesAsked : List ℕ → List ℕ → List Check
 bytesAsked l front = lengthCheck l ∷ demand (length front ≤ 510) (refuse 1 0 0) ∷ []
 
+-- first bytes and others from byte `at` on, within 510
+unfoldable pub partsAsked : List ℕ → List ℕ → List ℕ → ℕ → List Check
+partsAsked l first last at = lengthCheck l ∷ demand ((length first ≤ at) × (at + length last ≤ 510)) (refuse 1 0 0) ∷ []
+
 -- numbers to be put into as many pairs of bytes; number i stands at byte 2·i
 abbrev pub Wide : List ℤ → ℕ → Type 0
 Wide numbers j = Word (getD numbers j (pos 0)) → ⊥

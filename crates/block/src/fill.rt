@@ -13,10 +13,12 @@ ghost use lib.ListN.{length, getD, set, take};
 ghost use Rattle.block.specs.Layout.{byte, word, words, blockOf};
 ghost use Rattle.piece.specs.Decide.{Seeks};
 ghost use Rattle.block.specs.Reading.{Writes, Word, Wide, bytesAsked, wordsAsked};
+ghost use Rattle.block.specs.Scan.{Begins};
 
-fn copy(front: &[u8], block: &mut [u8])
-    requires { ⌜ (length (now front) ≤ 510) × (length (now block) ≡ 512) ⌝ }
-    ensures { λ _. ⌜ (length (now (block .exit)) ≡ 512) × ((i : ℕ) → i < length (now (front .entry)) → byte (now (block .exit)) i ≡ byte (now (front .entry)) i) ⌝ }
+// The bytes from the begin of a list on.
+pub(crate) fn copy(front: &[u8], block: &mut [u8])
+    requires { ⌜ length (now front) ≤ length (now block) ⌝ }
+    ensures { λ _. ⌜ Begins (now (front .entry)) (now (block .entry)) (now (block .exit)) ⌝ }
 {
     let mut i = 0;
     while i < front.len() {
@@ -25,7 +27,7 @@ fn copy(front: &[u8], block: &mut [u8])
     }
 }
 
-fn clear(block: &mut [u8], from: usize)
+pub(crate) fn clear(block: &mut [u8], from: usize)
     requires { ⌜ (from ≤ 510) × (length (now block) ≡ 512) ⌝ }
     ensures { λ _. ⌜ (length (now (block .exit)) ≡ 512) × (((i : ℕ) → i < from → byte (now (block .exit)) i ≡ byte (now (block .entry)) i) × ((i : ℕ) → from ≤ i → i < 510 → byte (now (block .exit)) i ≡ 0)) ⌝ }
 {

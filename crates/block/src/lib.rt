@@ -2,6 +2,7 @@
 // specs/Layout.antt makes the bytes of each kind, specs/Reading.antt says what reading and writing answer, specs/Verdicts.antt what a verdict on a block answers.
 mod fill;
 mod header;
+mod parts;
 mod pieces;
 mod runs;
 mod scan;
@@ -13,6 +14,7 @@ pub use fill::write_bytes;
 pub use fill::write_words;
 pub use header::read_header;
 pub use header::write_header;
+pub use parts::write_parts;
 use piece::Band;
 use piece::Run;
 pub use pieces::read_piece;

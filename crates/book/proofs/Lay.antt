@@ -21,7 +21,7 @@ use Rattle.block.specs.Layout.{byte, sum, words, filled, runBody, pieceNumbers,
 use Rattle.block.specs.Reading.{Writes}
 use Rattle.block.proofs.Bytes.{sum-same}
 use Rattle.block.proofs.Bodies.{run-body-length}
-use Rattle.block.proofs.Parts.{mid, mid-length, mid-front}
+use Rattle.block.proofs.Mid.{mid, mid-length, mid-front}
 use Rattle.block.proofs.PieceLaws.{bandNumbers}
 use Rattle.block.proofs.Words.{words-length}
 use Rattle.book.specs.Entry.{slots, question, home}

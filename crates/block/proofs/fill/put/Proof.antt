@@ -23,9 +23,9 @@ returns : tie.Need-returns
 returns c =
     let d = c .before .before .before .before .before .before .copy in let b = c .before .before .before .before .before .before .before .before .before .before in
     let f = now (b .args .front) in let l = d .last .1 .0 in
-    let n : length f ≤ length l = omega (arith, d .ensures .0, b .pre) in
+    let n : length f ≤ length l = omega (arith, d .ensures .size, b .pre) in
     c .before .before .finish .ensures
-    ∙ ap blockOf (ext-getD 0 (take (length f) l) f (length-take-le (length f) l n) (λ i h. getD-take (length f) l i 0 (omega (arith, length-take-le (length f) l n)) ∙ d .ensures .1 i (omega (arith, length-take-le (length f) l n))))
+    ∙ ap blockOf (ext-getD 0 (take (length f) l) f (length-take-le (length f) l n) (λ i h. getD-take (length f) l i 0 (omega (arith, length-take-le (length f) l n)) ∙ d .ensures .first i (omega (arith, length-take-le (length f) l n))))
 
 pub put-spec : {M : Type 1} → statement M
 put-spec = tie.close (tie.spec copy-requires finish-requires same-length returns)

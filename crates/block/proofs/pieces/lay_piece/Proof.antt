@@ -10,7 +10,7 @@ use denote.Ref.{now}
 use Rattle.piece.specs.Numbers.{pieceOf}
 use Rattle.block.specs.Layout.{words}
 use Rattle.block.specs.Reading.{Word}
-use Rattle.block.proofs.Parts.{mid, mid-length, mid-front, part-length, two-length, two-then}
+use Rattle.block.proofs.Mid.{mid, mid-length, mid-front, part-length, two-length, two-then}
 use Rattle.block.proofs.PieceLaws.{sized-most, good-sized, good-word, machine, bandNumbers, read-band, band-word}
 use Rattle.block.proofs.Words.{words-length}
 use Rattle.block.proofs.pieces.lay_piece.Statement.{statement}

@@ -10,7 +10,7 @@ use denote.Ref.{now}
 use Rattle.piece.specs.Numbers.{runOf}
 use Rattle.block.specs.Layout.{words, runNumbers, runBody}
 use Rattle.block.specs.Reading.{Word}
-use Rattle.block.proofs.Parts.{part-length, two-length, two-then}
+use Rattle.block.proofs.Mid.{part-length, two-length, two-then}
 use Rattle.block.proofs.RunLaws.{good-ticks, good-word, machine, read-run}
 use Rattle.block.proofs.runs.lay_run.Statement.{statement}
 use Rattle.block.proofs.runs.lay_run.Tie as tie

@@ -7,7 +7,7 @@ use lib.ListN.{length, drop}
 use denote.Ref.{now}
 use Rattle.piece.specs.Numbers.{runOf, pieceOf}
 use Rattle.block.specs.Reading.{nothing}
-use Rattle.block.proofs.Parts.{mid}
+use Rattle.block.proofs.Mid.{mid}
 use Rattle.book.proofs.Lay.{headed-length, room, begin, lays-begins}
 use Rattle.book.proofs.front.lay.Statement.{statement}
 use Rattle.book.proofs.front.lay.Tie as tie

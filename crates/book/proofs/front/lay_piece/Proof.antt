@@ -12,7 +12,7 @@ use Rattle.rules.specs.Good.{pieceChecks}
 use Rattle.piece.specs.Numbers.{pieceOf}
 use Rattle.block.specs.Layout.{words}
 use Rattle.block.specs.Reading.{wordsAsked}
-use Rattle.block.proofs.Parts.{mid, mid-length, part-length}
+use Rattle.block.proofs.Mid.{mid, mid-length, part-length}
 use Rattle.block.proofs.PieceLaws.{sized-most, good-sized, good-word, machine, bandNumbers, read-band, band-word}
 use Rattle.block.proofs.Sharp.{sharp-words-asked}
 use Rattle.book.proofs.Lay.{wrote, refused, body, body-is}

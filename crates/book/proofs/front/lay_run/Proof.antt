@@ -11,7 +11,7 @@ use Rattle.rules.specs.Refusal.{Passes}
 use Rattle.piece.specs.Numbers.{runOf}
 use Rattle.block.specs.Layout.{words, runNumbers, runBody}
 use Rattle.block.specs.Reading.{wordsAsked}
-use Rattle.block.proofs.Parts.{mid, part-length, two-length, two-then}
+use Rattle.block.proofs.Mid.{mid, part-length, two-length, two-then}
 use Rattle.block.proofs.RunLaws.{good-ticks, good-word, machine, read-run}
 use Rattle.block.proofs.Sharp.{sharp-words-asked}
 use Rattle.book.proofs.Lay.{written}

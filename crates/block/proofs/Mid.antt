@@ -1,10 +1,10 @@
 -- Bytes put into the middle of a list: what stands up to their end. Assumes nothing.
 use mathlib.Core.Path.{_≡_, refl, sym, ap, _∙_}
 use mathlib.Core.List.{List, [], _∷_, _++_, append-assoc}
-use Prim.Native.Nat.{ℕ, _+_, _*_, _-_, _≤_}
+use Prim.Native.Nat.{ℕ, _+_, _≤_, _<_}
 use native.Mathlib.Omega.{arith}
-use lib.ListN.{length, set, take, drop, length-set, length-append, length-take, length-drop}
-use lib.Seq.{take-at}
+use lib.ListN.{length, getD, set, take, drop, List·getD-append, length-set, length-append, length-take, length-drop}
+use lib.Seq.{take-at, getD-take, getD-drop, getD-append-add}
 
 -- ys in the place of the n bytes from byte a on
 abbrev pub mid : ℕ → ℕ → List ℕ → List ℕ → List ℕ
@@ -18,6 +18,28 @@ module _ (l ys : List ℕ) (a n : ℕ) (h : a + n ≤ length l) (e : length ys �
   mid-front =
       ap (take (a + n)) (sym (append-assoc (take a l) ys (drop n (drop a l))))
       ∙ take-at (take a l ++ ys) (drop n (drop a l)) (a + n) (omega (arith, length-append (take a l) ys, length-take a l))
+
+-- byte by byte
+module _ (l ys : List ℕ) (a n : ℕ) (h : a + n ≤ length l) (e : length ys ≡ n) where
+  front : length (take a l) ≡ a
+  front = omega (arith, length-take a l)
+
+  pub mid-before : (i : ℕ) → i < a → getD (mid a n l ys) i 0 ≡ getD l i 0
+  mid-before i g = List·getD-append (take a l) (ys ++ drop n (drop a l)) 0 i (omega (arith, front)) ∙ getD-take a l i 0 g
+
+  past : (j : ℕ) → getD (mid a n l ys) (a + j) 0 ≡ getD (ys ++ drop n (drop a l)) j 0
+  past j = ap (λ m. getD (mid a n l ys) (m + j) 0) (sym front) ∙ getD-append-add (take a l) (ys ++ drop n (drop a l)) j 0
+
+  pub mid-in : (j : ℕ) → j < n → getD (mid a n l ys) (a + j) 0 ≡ getD ys j 0
+  mid-in j g = past j ∙ List·getD-append ys (drop n (drop a l)) 0 j (omega arith)
+
+  pub mid-after : (j : ℕ) → getD (mid a n l ys) (a + (n + j)) 0 ≡ getD l (a + (n + j)) 0
+  mid-after j =
+      past (n + j)
+      ∙ ap (λ m. getD (ys ++ drop n (drop a l)) (m + j) 0) (sym e)
+      ∙ getD-append-add ys (drop n (drop a l)) j 0
+      ∙ getD-drop n (drop a l) j 0
+      ∙ getD-drop a l (n + j) 0
 
 -- the bytes of a part
 pub part-length : (l : List ℕ) (a n : ℕ) → a + n ≤ length l → length (take n (drop a l)) ≡ n

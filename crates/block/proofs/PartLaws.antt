@@ -1,0 +1,82 @@
+-- A block of two parts with zeros between them: its bytes and its sums. Assumes nothing.
+use mathlib.Core.Path.{_≡_, refl, sym, ap, _∙_}
+use mathlib.Core.Logic.{⊎-elim}
+use mathlib.Core.List.{List, _++_}
+use Prim.Native.Nat.{ℕ, zero, suc, _+_, _*_, _-_, _%_, _≤_, _<_}
+use native.Mathlib.Omega.{arith}
+use lib.ListN.{length, List·getD-append, List·getD-eq-default, length-append}
+use lib.Seq.{getD-append-add}
+use Rattle.whole.proofs.Order.{ℕ-or}
+use Rattle.block.specs.Layout.{byte, sum, plainSum, weighedSum, filled}
+use Rattle.block.specs.Scan.{Alike, Begins, SumsAt, Clean}
+use Rattle.block.proofs.Bytes.{filled-at, filled-length, sum-same, sum-split}
+use Rattle.block.proofs.Mid.{mid, mid-before, mid-in, mid-after}
+
+-- a sum goes no further than what is not zero
+sum-zero : (f : ℕ → ℕ) (n : ℕ) → ((i : ℕ) → i < n → f i ≡ 0) → sum f n ≡ 0
+unfolding sum
+sum-zero f zero h = refl
+sum-zero f (suc n) h = omega (arith, sum-zero f n (λ i l. h i (omega arith)), h n (omega arith))
+
+sum-short : (f : ℕ → ℕ) (m n : ℕ) → m ≤ n → ((i : ℕ) → m ≤ i → i < n → f i ≡ 0) → sum f n ≡ sum f m
+sum-short f m n h z =
+    let e : n ≡ m + (n - m) = omega arith in
+    ap (sum f) e ∙ sum-split f m (n - m) ∙ omega (arith, sum-zero (λ j. f (m + j)) (n - m) (λ j l. z (m + j) (omega arith) (omega arith)))
+
+module _ (first last : List ℕ) (at : ℕ) (k : length first ≤ at) (h : at + length last ≤ 510) where
+  abbrev both : List ℕ
+  both = filled at first ++ last
+
+  long : length (filled at first) ≡ at
+  long = filled-length at first k
+
+  pub both-few : length both ≤ 510
+  both-few = omega (arith, length-append (filled at first) last, long)
+
+  both-first : (i : ℕ) → i < at → byte both i ≡ byte first i
+  both-first i g = List·getD-append (filled at first) last 0 i (omega (arith, long)) ∙ filled-at at first i
+
+  both-last : (j : ℕ) → byte both (at + j) ≡ byte last j
+  both-last j = ap (λ m. byte both (m + j)) (sym long) ∙ getD-append-add (filled at first) last j 0
+
+  -- ---- the bytes, as they are laid: zeros, the first part, and the last in its place
+  module _ (z m y : List ℕ) (n : ℕ) (zl : length z ≡ 512) (zs : Clean z 0 510) (b : Begins first z m) (l : (j : ℕ) → j < length last → byte y j ≡ byte last j) where
+    first-is : (i : ℕ) → i < 510 → byte m i ≡ byte first i
+    first-is i g =
+        ⊎-elim (λ (q : length first ≤ i). b .rest i q ∙ zs i (omega arith) g ∙ sym (List·getD-eq-default first 0 {n = i} q)) (λ (q : i < length first). b .first i q) (ℕ-or (length first) i)
+
+    pub parts-alike : length y ≡ n → n ≡ length last → Alike (mid at n m y) both
+    parts-alike e f i g =
+        let s : at + n ≤ length m = omega (arith, b .size) in
+        ⊎-elim
+        (λ (q : at ≤ i). let d : at + (i - at) ≡ i = omega arith in
+        rw (sym d)
+        (⊎-elim
+        (λ (p : n ≤ i - at). let c : n + (i - at - n) ≡ i - at = omega arith in
+        rw (sym c)
+        (mid-after m y at n s e (i - at - n) ∙ first-is (at + (n + (i - at - n))) (omega arith) ∙ List·getD-eq-default first 0 {n = at + (n + (i - at - n))} (omega arith) ∙ sym (both-last (n + (i - at - n)) ∙ List·getD-eq-default last 0 {n = n + (i - at - n)} (omega arith))))
+        (λ (p : i - at < n). mid-in m y at n s e (i - at) p ∙ l (i - at) (omega arith) ∙ sym (both-last (i - at)))
+        (ℕ-or n (i - at))))
+        (λ (q : i < at). mid-before m y at n s e i q ∙ first-is i g ∙ sym (both-first i q))
+        (ℕ-or at i)
+
+  -- ---- the sums, of any weight that zeros do not have
+  sums : (g : ℕ → ℕ → ℕ) → ((i : ℕ) → g i 0 ≡ 0) → sum (λ i. g i (byte both i)) 510 ≡ sum (λ i. g i (byte first i)) (length first) + sum (λ j. g (at + j) (byte last j)) (length last)
+  sums g o =
+      let e : 510 ≡ at + (510 - at) = omega arith in
+      let p = sum-same (λ i. g i (byte both i)) (λ i. g i (byte first i)) at (λ i q. ap (g i) (both-first i q)) in
+      let q = sum-short (λ i. g i (byte first i)) (length first) at k (λ i r s. ap (g i) (List·getD-eq-default first 0 {n = i} r) ∙ o i) in
+      let r = sum-same (λ j. g (at + j) (byte both (at + j))) (λ j. g (at + j) (byte last j)) (510 - at) (λ j s. ap (g (at + j)) (both-last j)) in
+      let s = sum-short (λ j. g (at + j) (byte last j)) (length last) (510 - at) (omega arith) (λ j t u. ap (g (at + j)) (List·getD-eq-default last 0 {n = j} t) ∙ o (at + j)) in
+      ap (sum (λ i. g i (byte both i))) e ∙ sum-split (λ i. g i (byte both i)) at (510 - at) ∙ omega (arith, p, q, r, s)
+
+  module _ (p w q v : ℕ) (a : SumsAt first 0 p w) (b : SumsAt last at q v) where
+    pub plain-parts : plainSum both ≡ (p + q) % 255
+    unfolding plainSum
+    plain-parts = ap (λ n. n % 255) (sums (λ i b. b) (λ i. refl) ∙ omega (arith, a .plain-is, b .plain-is))
+
+    pub weighed-parts : weighedSum both ≡ (w + v) % 255
+    unfolding weighedSum
+    weighed-parts =
+        let o = sum-same (λ i. (510 - i) * byte first i) (λ i. (510 - (0 + i)) * byte first i) (length first) (λ i l. let e : i ≡ 0 + i = omega arith in ap (λ m. (510 - m) * byte first i) e) in
+        ap (λ n. n % 255) (sums (λ i b. (510 - i) * b) (λ i. omega arith) ∙ omega (arith, o, a .weighed-is, b .weighed-is))

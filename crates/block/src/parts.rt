@@ -1,0 +1,64 @@
+// A block of two parts with zeros between them: what stands in the parts alone is summed.
+use crate::fill::clear;
+use crate::fill::copy;
+use crate::sums::Sums;
+use refusal::Checked;
+use refusal::Refusal;
+ghost use mathlib.Core.Path.{_≡_};
+ghost use mathlib.Core.List.{_++_};
+ghost use Prim.Native.Nat.{_+_, _≤_};
+ghost use lib.ListN.{length};
+ghost use Rattle.block.specs.Layout.{filled, blockOf};
+ghost use Rattle.block.specs.Reading.{Writes, partsAsked};
+ghost use Rattle.block.specs.Scan.{Alike, SumsAt};
+
+// The sums of bytes that stand in a block from byte `at` on: the largest are 130,050 and 66,325,500.
+fn sums_at(bytes: &[u8], at: usize) -> Sums
+    requires { ⌜ at + length (now bytes) ≤ 510 ⌝ }
+    ensures { λ r. ⌜ SumsAt (now (bytes .entry)) at (r .plain) (r .weighed) ⌝ }
+{
+    let mut plain: u32 = 0;
+    let mut weighed: u32 = 0;
+    let mut i: usize = 0;
+    while i < bytes.len() {
+        let byte = bytes[i] as u32;
+        plain += byte;
+        weighed += (510 - (at + i)) as u32 * byte;
+        i += 1;
+    }
+    Sums { plain, weighed }
+}
+
+fn lay_parts(first: &[u8], last: &[u8], at: usize, block: &mut [u8])
+    requires { ⌜ (length (now first) ≤ at) × ((at + length (now last) ≤ 510) × (length (now block) ≡ 512)) ⌝ }
+    ensures { λ _. ⌜ Alike (now (block .exit)) (filled at (now (first .entry)) ++ now (last .entry)) ⌝ }
+{
+    let end = at + last.len();
+    clear(block, 0);
+    copy(first, block);
+    copy(last, &mut block[at..end]);
+}
+
+// The first bytes of a block, zeros up to byte `at`, and the bytes that stand there; zeros and the check follow.
+pub fn write_parts(first: &[u8], last: &[u8], at: usize, block: &mut [u8]) -> Checked
+    ensures { λ r. ⌜ Writes (partsAsked (now (block .entry)) (now (first .entry)) (now (last .entry)) at) (blockOf (filled at (now (first .entry)) ++ now (last .entry))) (now (block .entry)) (now (block .exit)) r ⌝ }
+{
+    if block.len() != 512 {
+        return Checked::Refused(Refusal::Length);
+    }
+    if at < first.len() {
+        return Checked::Refused(Refusal::Length);
+    }
+    if 510 < at {
+        return Checked::Refused(Refusal::Length);
+    }
+    if 510 - at < last.len() {
+        return Checked::Refused(Refusal::Length);
+    }
+    let head = sums_at(first, 0);
+    let tail = sums_at(last, at);
+    lay_parts(first, last, at, block);
+    block[510] = ((head.plain + tail.plain) % 255) as u8;
+    block[511] = ((head.weighed + tail.weighed) % 255) as u8;
+    Checked::Good
+}
