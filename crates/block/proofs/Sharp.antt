@@ -6,7 +6,7 @@ use Rattle.rules.specs.Reach.{Run, Piece}
 use Rattle.rules.specs.Good.{runChecks, pieceChecks}
 use Rattle.rules.proofs.Checks.{AllSharp, sharp-demand, sharp-each, sharp-append}
 use Rattle.rules.proofs.Good.{sharp-run, sharp-piece}
-use Rattle.block.specs.Reading.{blockChecks, headerBytes, headerChecks, runBytes, pieceBytes, RunIn, PieceIn, inside, runBlockChecks, pieceBlockChecks, headerAsked, bytesAsked, partsAsked, wordsAsked, runAsked, pieceAsked}
+use Rattle.block.specs.Reading.{blockChecks, headerBytes, headerChecks, runBytes, pieceBytes, RunIn, PieceIn, inside, runBlockChecks, pieceBlockChecks, headerAsked, partsAsked, wordsAsked, runAsked, pieceAsked}
 use Rattle.block.specs.Verdicts.{verdictInChecks}
 use Rattle.block.proofs.Found.{sharp-inside}
 use Rattle.block.proofs.RunLaws.{run-one}
@@ -47,10 +47,6 @@ unfolding verdictInChecks
 sharp-verdict-in r l = sharp-append (runChecks r) (pieceBlockChecks l) (sharp-run r) (sharp-piece-block l)
 
 -- ---- writing
-pub sharp-bytes-asked : (l front : List ℕ) → AllSharp (bytesAsked l front)
-unfolding bytesAsked
-sharp-bytes-asked l front = (sharp-demand _ _, (sharp-demand _ _, tt))
-
 pub sharp-parts-asked : (l first last : List ℕ) (at : ℕ) → AllSharp (partsAsked l first last at)
 unfolding partsAsked
 sharp-parts-asked l first last at = (sharp-demand _ _, (sharp-demand _ _, tt))

@@ -147,10 +147,6 @@ Writes cs made before after (Refused x) = Fault cs (said x) × (after ≡ before
 unfoldable pub headerAsked : List ℕ → ℕ → List Check
 headerAsked l n = lengthCheck l ∷ demand (Pieces n) (refuse 3 5 0) ∷ []
 
--- first bytes to be put into a block, at most 510
-unfoldable pub bytesAsked : List ℕ → List ℕ → List Check
-bytesAsked l front = lengthCheck l ∷ demand (length front ≤ 510) (refuse 1 0 0) ∷ []
-
 -- first bytes and others from byte `at` on, within 510
 unfoldable pub partsAsked : List ℕ → List ℕ → List ℕ → ℕ → List Check
 partsAsked l first last at = lengthCheck l ∷ demand ((length first ≤ at) × (at + length last ≤ 510)) (refuse 1 0 0) ∷ []

@@ -12,7 +12,7 @@ ghost use lib.IntN.{pos};
 ghost use lib.ListN.{length, getD, set, take};
 ghost use Rattle.block.specs.Layout.{byte, word, words, blockOf};
 ghost use Rattle.piece.specs.Decide.{Seeks};
-ghost use Rattle.block.specs.Reading.{Writes, Word, Wide, bytesAsked, wordsAsked};
+ghost use Rattle.block.specs.Reading.{Writes, Word, Wide, wordsAsked};
 ghost use Rattle.block.specs.Scan.{Begins};
 
 // The bytes from the begin of a list on.
@@ -54,20 +54,6 @@ pub(crate) fn put(front: &[u8], block: &mut [u8])
 {
     copy(front, block);
     finish(block, front.len());
-}
-
-// The first bytes of a block, for whoever lays them out: at most 510; zeros and the check follow.
-pub fn write_bytes(front: &[u8], block: &mut [u8]) -> Checked
-    ensures { λ r. ⌜ Writes (bytesAsked (now (block .entry)) (now (front .entry))) (blockOf (now (front .entry))) (now (block .entry)) (now (block .exit)) r ⌝ }
-{
-    if block.len() != 512 {
-        return Checked::Refused(Refusal::Length);
-    }
-    if 510 < front.len() {
-        return Checked::Refused(Refusal::Length);
-    }
-    put(front, block);
-    Checked::Good
 }
 
 // The two bytes of number j, in their place.

@@ -10,7 +10,6 @@ mod sums;
 mod verdicts;
 mod word;
 
-pub use fill::write_bytes;
 pub use fill::write_words;
 pub use header::read_header;
 pub use header::write_header;
@@ -23,7 +22,6 @@ use refusal::Checked;
 use refusal::Refusal;
 pub use runs::read_run;
 pub use runs::write_run;
-pub use sums::check_block;
 pub use verdicts::verdict_in;
 
 // A header's piece count.

@@ -35,7 +35,7 @@ pub(crate) fn sums_of(block: &[u8]) -> Sums
 }
 
 // The length of a block, and its check.
-pub fn check_block(block: &[u8]) -> Checked
+pub(crate) fn check_block(block: &[u8]) -> Checked
     ensures { λ r. ⌜ Finds (blockChecks (now (block .entry))) r ⌝ }
 {
     if block.len() != 512 {

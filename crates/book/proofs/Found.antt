@@ -6,7 +6,7 @@ use mathlib.Core.List.{List, _++_}
 use Prim.Native.Nat.{ℕ, suc, _+_, _*_, _%_, _≤_, _<_}
 use native.Mathlib.Nat.{mod-lt}
 use native.Mathlib.Omega.{arith}
-use lib.ListN.{length, take}
+use lib.ListN.{length}
 use Rattle.rules.specs.Reach.{Run, Piece}
 use Rattle.rules.specs.Refusal.{Refusal, Passes, Fault}
 use Rattle.rules.specs.Good.{runChecks, pieceChecks}
@@ -46,43 +46,40 @@ module _ (book front : List ℕ) (r : Run) (k : Piece) (i : ℕ) (s : Slots book
     at-home : i ≡ home book r k
     at-home = e ∙ home-is book front r k (piece-known k p) b
 
-    entry-is : (c : ℕ) → blockOf (take 283 front ++ four c) ≡ entry r k c
+    entry-is : (c : ℕ) → blockOf (front ++ four c) ≡ entry r k c
     unfolding entry
     entry-is c = ap (λ (l : List ℕ). blockOf (l ++ four c)) (b .first)
 
-    to-hit : (c : ℕ) → Sound (blockAt book i) (take 283 front) r c → Hit book r k c
+    to-hit : (c : ℕ) → Sound (blockAt book i) (front) r c → Hit book r k c
     to-hit c h = record { fits = h .fits; possible = h .possible; same = ap (blockAt book) (sym at-home) ∙ h .same ∙ entry-is c }
 
-    of-hit : (c : ℕ) → Hit book r k c → Sound (blockAt book i) (take 283 front) r c
+    of-hit : (c : ℕ) → Hit book r k c → Sound (blockAt book i) (front) r c
     of-hit c h = record { fits = h .fits; possible = h .possible; same = ap (blockAt book) at-home ∙ h .same ∙ sym (entry-is c) }
 
     -- what is kept is the entry in its home
-    kept-is : (after last : List ℕ) (c : ℕ) → take 283 last ≡ take 283 front → after ≡ put book i (blockOf (take 283 last ++ four c)) → after ≡ put book (home book r k) (entry r k c)
-    kept-is after last c f q =
-        q
-        ∙ ap (λ n. put book n (blockOf (take 283 last ++ four c))) at-home
-        ∙ ap (λ (z : List ℕ). put book (home book r k) z) (ap (λ (l : List ℕ). blockOf (l ++ four c)) f ∙ entry-is c)
+    kept-is : (after : List ℕ) (c : ℕ) → after ≡ put book i (blockOf (front ++ four c)) → after ≡ put book (home book r k) (entry r k c)
+    kept-is after c q = q ∙ ap (λ n. put book n (blockOf (front ++ four c))) at-home ∙ ap (λ (z : List ℕ). put book (home book r k) z) (entry-is c)
 
-  module _ (laid : Bool) (b : Begins r k front laid) (x : Found) (f : Sought laid (blockAt book i) (take 283 front) r x) where
-    recalls : Passes (pieceChecks k) → Recalls (blockAt book i) (take 283 front) r x
-    recalls p = subst (λ (t : Bool). Sought t (blockAt book i) (take 283 front) r x) (begun-good r k front laid b p .0) f
+  module _ (laid : Bool) (b : Begins r k front laid) (x : Found) (f : Sought laid (blockAt book i) (front) r x) where
+    recalls : Passes (pieceChecks k) → Recalls (blockAt book i) (front) r x
+    recalls p = subst (λ (t : Bool). Sought t (blockAt book i) (front) r x) (begun-good r k front laid b p .0) f
 
     pub hits : (c : ℕ) → x ≡ Code c → Passes (pieceChecks k) → Hits book book r k c
-    hits c g p = record { passes = all-pass p; hit = to-hit p (begun-good r k front laid b p .1) c (subst (Recalls (blockAt book i) (take 283 front) r) g (recalls p)); same = refl }
+    hits c g p = record { passes = all-pass p; hit = to-hit p (begun-good r k front laid b p .1) c (subst (Recalls (blockAt book i) (front) r) g (recalls p)); same = refl }
 
-    pub works : (last after : List ℕ) (a : Asked) → take 283 last ≡ take 283 front → x ≡ Nothing → Works book after i last r k a → AskSays book after r k a
+    pub works : (after : List ℕ) (a : Asked) → x ≡ Nothing → Works book after i front r k a → AskSays book after r k a
     unfolding askChecks
-    works last after (Remembered c) t g w = absurd w
-    works last after (Worked c) t g w =
+    works after (Remembered c) g w = absurd w
+    works after (Worked c) g w =
         let p = piece-passes r k (w .passes) in let d = begun-good r k front laid b p .1 in
         record {
           passes = all-pass p;
-          miss = λ m h. subst (Recalls (blockAt book i) (take 283 front) r) g (recalls p) m (of-hit p d m h);
+          miss = λ m h. subst (Recalls (blockAt book i) (front) r) g (recalls p) m (of-hit p d m h);
           small = w .small;
           verdict = w .verdict;
-          stored = kept-is p d after last c t (w .kept);
+          stored = kept-is p d after c (w .kept);
         }
-    works last after (Refused y) t g w = (inr (s, w .0), w .1)
+    works after (Refused y) g w = (inr (s, w .0), w .1)
 
 -- the run is looked at before the piece
 pub run-faulty : (r : Run) (k : Piece) (x : Refusal) → Fault (runChecks r) x → Fault (verdictChecks r k) x

@@ -6,8 +6,10 @@ use Prim.Native.Nat.{ℕ, zero, suc, _+_, _*_, _-_, _/_, _%_, _≤_, _<_}
 use native.Mathlib.Omega.{arith}
 use lib.IntN.{ℤ}
 use lib.ListN.{length, set, take, drop, replicate, length-append, length-drop}
-use lib.Seq.{take-at, drop-at, getD-take}
+use lib.Seq.{take-at, take-all, drop-at}
+use Rattle.whole.proofs.Flag.{false-true}
 use Rattle.rules.specs.Reach.{Run, Piece}
+use Rattle.rules.specs.Ring.{ring}
 use Rattle.rules.specs.Refusal.{Check, Passes, Fault}
 use Rattle.rules.specs.Good.{PieceKnown, pieceChecks}
 use Rattle.rules.proofs.Checks.{AllSharp, never-both}
@@ -25,7 +27,7 @@ use Rattle.block.proofs.Mid.{mid, mid-length, mid-front}
 use Rattle.block.proofs.PieceLaws.{bandNumbers}
 use Rattle.block.proofs.Words.{words-length}
 use Rattle.book.specs.Entry.{slots, question, home}
-use Rattle.book.specs.Steps.{Lays, Begun, Begins}
+use Rattle.book.specs.Steps.{Lays, Begun, Begins, Padded, Ready, Laid}
 use Rattle.book.proofs.Question.{question-length}
 
 -- ---- what was written
@@ -76,36 +78,64 @@ module _ (b : Band) (l : List ℤ) (blank band corners : List ℕ) (n : ℕ) (z 
       ∙ ap (λ (h : List ℕ). (length l / 2 ∷ words (pieceNumbers (pieceOf b l))) ++ h) rest
 
 -- ---- the run's bytes, and the piece's after them
-module _ (r : Run) (k : Piece) (front head body : List ℕ) (z : front ≡ zeros 287) (h : head ≡ 3 ∷ 0 ∷ runBody r) where
+module _ (r : Run) (k : Piece) (front head body : List ℕ) (z : front ≡ zeros 283) (h : head ≡ 3 ∷ 0 ∷ runBody r) where
   sixteen : length head ≡ 16
   sixteen = ap length h ∙ ap (λ n. suc (suc n)) (run-body-length r)
 
-  pub headed-length : length (head ++ drop 16 front) ≡ 287
+  pub headed-length : length (head ++ drop 16 front) ≡ 283
   headed-length = omega (arith, length-append head (drop 16 front), length-drop 16 front, ap length z, sixteen)
 
   pub room : take 267 (drop 16 (head ++ drop 16 front)) ≡ zeros 267
   room = ap (take 267) (drop-at head (drop 16 front) 16 sixteen) ∙ ap (λ (l : List ℕ). take 267 (drop 16 l)) z
 
-  pub begin : length body ≡ 267 → body ≡ pieceBody k → Begun r k (mid 16 267 (head ++ drop 16 front) body)
+  pub begin : length body ≡ 267 → (length (k .corners) ≤ 128) × (body ≡ pieceBody k) → Begun r k (mid 16 267 (head ++ drop 16 front) body)
   unfolding question
   begin n e = record {
-    long = mid-length (head ++ drop 16 front) body 16 267 (omega (arith, headed-length)) n ∙ headed-length;
-    first = mid-front (head ++ drop 16 front) body 16 267 (omega (arith, headed-length)) n
+    few = e .0;
+    first = sym (take-all 283 (mid 16 267 (head ++ drop 16 front) body) (omega (arith, mid-length (head ++ drop 16 front) body 16 267 (omega (arith, headed-length)) n, headed-length)))
+        ∙ mid-front (head ++ drop 16 front) body 16 267 (omega (arith, headed-length)) n
         ∙ ap (λ (l : List ℕ). l ++ body) (take-at head (drop 16 front) 16 sixteen ∙ h)
-        ∙ ap (λ (l : List ℕ). (3 ∷ 0 ∷ runBody r) ++ l) e;
+        ∙ ap (λ (l : List ℕ). (3 ∷ 0 ∷ runBody r) ++ l) (e .1);
   }
 
 -- ---- a piece that was laid out, or not
-pub lays-begins : (r : Run) (k : Piece) (body front : List ℕ) (b : Bool) → (body ≡ pieceBody k → Begun r k front) → Lays k body b → Begins r k front b
+pub lays-begins : (r : Run) (k : Piece) (body front : List ℕ) (b : Bool) → ((length (k .corners) ≤ 128) × (body ≡ pieceBody k) → Begun r k front) → Lays k body b → Begins r k front b
 lays-begins r k body front true f l = f l
 lays-begins r k body front false f l = l
-
-pub begun : (r : Run) (k : Piece) (front : List ℕ) (b : Bool) → Begins r k front b → b ≡ true → Begun r k front
-begun r k front b h e = subst (Begins r k front) e h
 
 pub begun-good : (r : Run) (k : Piece) (front : List ℕ) (b : Bool) → Begins r k front b → Passes (pieceChecks k) → (b ≡ true) × Begun r k front
 begun-good r k front true h p = (refl, h)
 begun-good r k front false h p = absurd (h p)
+
+-- ---- zeros after the corners
+module _ (r : Run) (k : Piece) (front : List ℕ) (b : Begun r k front) where
+  abbrev named : List ℕ
+  named = (3 ∷ 0 ∷ runBody r) ++ (ring (k .corners) .size ∷ words (pieceNumbers k))
+
+  named-length : length named ≡ 27 + 2 * length (k .corners)
+  named-length = omega (arith, length-append (3 ∷ 0 ∷ runBody r) (ring (k .corners) .size ∷ words (pieceNumbers k)), run-body-length r, words-length (pieceNumbers k))
+
+  padded-is : front ≡ filled 283 named
+  unfolding question pieceBody filled
+  padded-is =
+      let f = b .few in
+      let e : 267 - length (ring (k .corners) .size ∷ words (pieceNumbers k)) ≡ 283 - length named = omega (arith, named-length, words-length (pieceNumbers k)) in
+      b .first
+      ∙ sym (append-assoc (3 ∷ 0 ∷ runBody r) (ring (k .corners) .size ∷ words (pieceNumbers k)) (zeros (267 - length (ring (k .corners) .size ∷ words (pieceNumbers k)))))
+      ∙ ap (λ n. named ++ zeros n) e
+
+  pub padded : Padded front (length (k .corners))
+  unfolding filled
+  padded =
+      let f = b .few in
+      record { within = omega arith; zeros = padded-is ∙ ap (filled 283) (sym (ap (take (27 + 2 * length (k .corners))) padded-is ∙ take-at named (zeros (283 - length named)) (27 + 2 * length (k .corners)) named-length)) }
+
+pub ready : (r : Run) (k : Piece) (front : List ℕ) (laid : Bool) → Begins r k front laid → Ready laid front (length (k .corners))
+ready r k front true b e = padded r k front b
+ready r k front false b e = absurd (false-true e)
+
+pub laid-good : (r : Run) (k : Piece) (front : List ℕ) (laid : Bool) → Begins r k front laid → Laid k front
+laid-good r k front laid b p = padded r k front (begun-good r k front laid b p .1)
 
 -- ---- the home slot
 pub home-is : (book front : List ℕ) (r : Run) (k : Piece) → PieceKnown k → Begun r k front → sum (λ i. byte front (2 + i)) 281 % slots book ≡ home book r k
@@ -114,6 +144,4 @@ home-is book front r k h b =
     ap (λ n. n % slots book) (sum-same (λ i. byte front (2 + i)) (byte (question r k)) 281 at ∙ ap (sum (byte (question r k))) (sym (question-length r k h)))
   where
     at : (i : ℕ) → i < 281 → byte front (2 + i) ≡ byte (question r k) i
-    at i g =
-        let e : 2 + i ≡ suc (suc i) = omega arith in
-        sym (getD-take 283 front (2 + i) 0 (omega arith)) ∙ ap (λ (l : List ℕ). byte l (2 + i)) (b .first) ∙ ap (byte (3 ∷ 0 ∷ question r k)) e
+    at i g = let e : 2 + i ≡ suc (suc i) = omega arith in ap (λ (l : List ℕ). byte l (2 + i)) (b .first) ∙ ap (byte (3 ∷ 0 ∷ question r k)) e

@@ -2,14 +2,14 @@
 use mathlib.Core.Path.{_≡_}
 use mathlib.Core.Bool.{Bool, true, false}
 use mathlib.Core.List.{List, _∷_, _++_}
-use Prim.Native.Nat.{ℕ, _+_, _*_, _<_}
+use Prim.Native.Nat.{ℕ, _+_, _*_, _≤_, _<_}
 use lib.ListN.{length, take}
 use Rattle.rules.specs.Reach.{Run, Piece}
 use Rattle.rules.specs.Refusal.{Passes, Fault}
 use Rattle.rules.specs.Good.{pieceChecks}
 use Rattle.rules.specs.Verdict.{Verdict, verdictChecks, answer}
 use Rattle.refusal.specs.Said.{said}
-use Rattle.block.specs.Layout.{byte, blockOf, pieceBody}
+use Rattle.block.specs.Layout.{byte, filled, blockOf, pieceBody}
 use Rattle.book.specs.declared.Asked.{Asked}
 use Rattle.book.specs.declared.Asked.the-variants.{Remembered, Worked, Refused}
 use Rattle.book.specs.declared.slot.Found.{Found}
@@ -18,17 +18,29 @@ use Rattle.book.specs.Entry.{question, four, Possible, put}
 
 -- the bytes of a piece, or it is no good piece
 abbrev pub Lays : Piece → List ℕ → Bool → Type 0
-Lays k body true = body ≡ pieceBody k
+Lays k body true = (length (k .corners) ≤ 128) × (body ≡ pieceBody k)
 Lays k body false = Passes (pieceChecks k) → ⊥
 
--- the first bytes of an entry, its code to come
+-- bytes 0 to 282 of an entry
 pub record Begun (r : Run) (k : Piece) (front : List ℕ) : Type 0 where
-  pub long : length front ≡ 287
-  pub first : take 283 front ≡ 3 ∷ 0 ∷ question r k
+  pub few : length (k .corners) ≤ 128
+  pub first : front ≡ 3 ∷ 0 ∷ question r k
 
 abbrev pub Begins : Run → Piece → List ℕ → Bool → Type 0
 Begins r k front true = Begun r k front
 Begins r k front false = Passes (pieceChecks k) → ⊥
+
+-- zeros follow the corners' numbers, of which there are so many
+pub record Padded (front : List ℕ) (size : ℕ) : Type 0 where
+  pub within : 27 + 2 * size ≤ 283
+  pub zeros : front ≡ filled 283 (take (27 + 2 * size) front)
+
+-- where it was laid out, and so of every good piece
+abbrev pub Ready : Bool → List ℕ → ℕ → Type 0
+Ready laid front size = laid ≡ true → Padded front size
+
+abbrev pub Laid : Piece → List ℕ → Type 0
+Laid k front = Passes (pieceChecks k) → Padded front (length (k .corners))
 
 -- bytes 283 to 286, low first
 abbrev pub Coded : List ℕ → ℕ → Type 0
@@ -51,7 +63,7 @@ Sought false slot first r f = f ≡ Nothing
 
 -- slot i becomes the block of these first bytes and a code
 abbrev pub Keeps : List ℕ → List ℕ → ℕ → List ℕ → ℕ → Type 0
-Keeps book after i front c = after ≡ put book i (blockOf (take 283 front ++ four c))
+Keeps book after i front c = after ≡ put book i (blockOf (front ++ four c))
 
 -- a good question is worked out and kept; another changes nothing
 pub record Worked-out (book after : List ℕ) (i : ℕ) (front : List ℕ) (r : Run) (k : Piece) (c : ℕ) : Type 0 where

@@ -1,12 +1,12 @@
-// The first bytes of an entry: kind, zero, the question, and last the code.
+// The bytes of an entry: kind, zero and the question, and apart from them the code.
 use block::write_words;
 use piece::Band;
 use piece::Run;
 use refusal::Checked;
 ghost use mathlib.Core.Path.{_≡_};
-ghost use mathlib.Core.List.{_∷_, _++_};
+ghost use mathlib.Core.List.{_∷_};
 ghost use Prim.Native.Nat.{_+_, _%_, _<_};
-ghost use lib.ListN.{length, take, replicate};
+ghost use lib.ListN.{length, replicate};
 ghost use Rattle.rules.specs.Refusal.{Passes};
 ghost use Rattle.rules.specs.Good.{runChecks};
 ghost use Rattle.piece.specs.Numbers.{runOf, pieceOf};
@@ -50,9 +50,9 @@ fn lay_piece(band: Band, corners: &[i32], body: &mut [u8]) -> bool
     }
 }
 
-// All but the code.
+// Bytes 0 to 282.
 pub(crate) fn lay(run: Run, band: Band, corners: &[i32], front: &mut [u8]) -> bool
-    requires { ⌜ Passes (runChecks (runOf run)) × (now front ≡ replicate 287 0) ⌝ }
+    requires { ⌜ Passes (runChecks (runOf run)) × (now front ≡ replicate 283 0) ⌝ }
     ensures { λ r. ⌜ Begins (runOf run) (pieceOf band (now (corners .entry))) (now (front .exit)) r ⌝ }
 {
     lay_run(run, &mut front[..16]);
@@ -60,26 +60,27 @@ pub(crate) fn lay(run: Run, band: Band, corners: &[i32], front: &mut [u8]) -> bo
 }
 
 // The code, low byte first.
-pub(crate) fn finish(front: &mut [u8], code: u32)
-    requires { ⌜ length (now front) ≡ 287 ⌝ }
-    ensures { λ _. ⌜ now (front .exit) ≡ take 283 (now (front .entry)) ++ four code ⌝ }
+pub(crate) fn bytes_of(code: u32) -> [u8; 4]
+    ensures { λ r. ⌜ r ≡ four code ⌝ }
 {
-    front[283] = (code % 256) as u8;
-    front[284] = (code / 256 % 256) as u8;
-    front[285] = (code / 256 / 256 % 256) as u8;
-    front[286] = (code / 256 / 256 / 256 % 256) as u8;
+    [
+        (code % 256) as u8,
+        (code / 256 % 256) as u8,
+        (code / 256 / 256 % 256) as u8,
+        (code / 256 / 256 / 256 % 256) as u8,
+    ]
 }
 
 // The sum of bytes 2 to 282, modulo the number of slots.
 pub(crate) fn home_of(front: &[u8], slots: usize) -> usize
-    requires { ⌜ (length (now front) ≡ 287) × (0 < slots) ⌝ }
+    requires { ⌜ (length (now front) ≡ 283) × (0 < slots) ⌝ }
     ensures { λ r. ⌜ r ≡ sum (λ i. byte (now (front .entry)) (2 + i)) 281 % slots ⌝ }
 {
-    let mut total: usize = 0;
+    let mut total: u32 = 0;
     let mut i = 0;
     while i < 281 {
-        total += front[2 + i] as usize;
+        total += front[2 + i] as u32;
         i += 1;
     }
-    total % slots
+    total as usize % slots
 }

@@ -2,13 +2,12 @@
 mod front;
 mod slot;
 
-use crate::front::finish;
 use crate::front::home_of;
 use crate::front::lay;
 use crate::slot::Found;
 use crate::slot::NONE;
+use crate::slot::keep;
 use crate::slot::seek;
-use crate::slot::store;
 use piece::Band;
 use piece::Run;
 use piece::Verdict;
@@ -25,7 +24,7 @@ ghost use Rattle.rules.specs.Good.{runChecks};
 ghost use Rattle.piece.specs.Numbers.{runOf, pieceOf};
 ghost use Rattle.book.specs.Entry.{Slots};
 ghost use Rattle.book.specs.Ask.{AskSays};
-ghost use Rattle.book.specs.Steps.{Keeps, Works};
+ghost use Rattle.book.specs.Steps.{Laid, Works};
 
 // A verdict, coded as in an entry, that was remembered or worked out; or the refusal.
 pub enum Asked {
@@ -34,35 +33,19 @@ pub enum Asked {
     Refused(Refusal),
 }
 
-// A code that was worked out becomes the entry of its question.
-fn keep(book: &mut [u8], at: usize, front: &mut [u8], code: u32)
-    requires { ⌜ (512 * suc at ≤ length (now book)) × (length (now front) ≡ 287) ⌝ }
-    ensures { λ _. ⌜ Keeps (now (book .entry)) (now (book .exit)) at (now (front .entry)) code ⌝ }
-{
-    finish(front, code);
-    store(book, at, front);
-}
-
 // The verdict is worked out, and the piece checked, only once.
-fn work(
-    book: &mut [u8],
-    at: usize,
-    front: &mut [u8],
-    run: Run,
-    band: Band,
-    corners: &[i32],
-) -> Asked
-    requires { ⌜ (512 * suc at ≤ length (now book)) × (length (now front) ≡ 287) ⌝ }
+fn work(book: &mut [u8], at: usize, front: &[u8], run: Run, band: Band, corners: &[i32]) -> Asked
+    requires { ⌜ (512 * suc at ≤ length (now book)) × Laid (pieceOf band (now corners)) (now front) ⌝ }
     ensures { λ r. ⌜ Works (now (book .entry)) (now (book .exit)) at (now (front .entry)) (runOf run) (pieceOf band (now (corners .entry))) r ⌝ }
 {
     match verdict(run, band, corners) {
         Verdict::Refused(x) => Asked::Refused(x),
         Verdict::Clear => {
-            keep(book, at, front, NONE);
+            keep(book, at, front, corners.len(), NONE);
             Asked::Worked(NONE)
         }
         Verdict::Mark(m) => {
-            keep(book, at, front, m);
+            keep(book, at, front, corners.len(), m);
             Asked::Worked(m)
         }
     }
@@ -70,12 +53,12 @@ fn work(
 
 // A good run asks: what is remembered is answered only of a good piece.
 fn answer(book: &mut [u8], run: Run, band: Band, corners: &[i32], front: &mut [u8]) -> Asked
-    requires { ⌜ Slots (now book) × (Passes (runChecks (runOf run)) × (now front ≡ replicate 287 0)) ⌝ }
+    requires { ⌜ Slots (now book) × (Passes (runChecks (runOf run)) × (now front ≡ replicate 283 0)) ⌝ }
     ensures { λ r. ⌜ AskSays (now (book .entry)) (now (book .exit)) (runOf run) (pieceOf band (now (corners .entry))) r ⌝ }
 {
     let laid = lay(run, band, corners, front);
     let at = home_of(front, book.len() / 512);
-    match seek(laid, book, at, front, run) {
+    match seek(laid, book, at, front, corners.len(), run) {
         Found::Nothing => work(book, at, front, run, band, corners),
         Found::Code(c) => match check_piece(band, corners) {
             Checked::Refused(x) => Asked::Refused(x),
@@ -101,6 +84,6 @@ pub fn ask(book: &mut [u8], run: Run, band: Band, corners: &[i32]) -> Asked
     if let Checked::Refused(x) = check_run(run) {
         return Asked::Refused(x);
     }
-    let mut front = [0u8; 287];
+    let mut front = [0u8; 283];
     answer(book, run, band, corners, &mut front)
 }

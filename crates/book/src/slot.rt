@@ -1,17 +1,17 @@
 // One slot of a book: what it remembers, and its bytes replaced.
-use crate::front::finish;
-use block::write_bytes;
+use crate::front::bytes_of;
+use block::write_parts;
 use piece::Run;
 ghost use mathlib.Core.Path.{_≡_};
 ghost use mathlib.Core.List.{_++_};
 ghost use Prim.Native.Nat.{suc, _+_, _*_, _≤_};
-ghost use lib.ListN.{length, take};
+ghost use lib.ListN.{length};
 ghost use Rattle.rules.specs.Reach.{Ticks};
 ghost use Rattle.piece.specs.Numbers.{runOf};
 ghost use Rattle.piece.specs.Decide.{Decides};
 ghost use Rattle.block.specs.Layout.{blockOf, blockAt};
-ghost use Rattle.book.specs.Entry.{four, put};
-ghost use Rattle.book.specs.Steps.{Coded, Recalls, Sought};
+ghost use Rattle.book.specs.Entry.{four};
+ghost use Rattle.book.specs.Steps.{Coded, Padded, Ready, Recalls, Sought, Keeps};
 
 // Clear, as a verdict is coded.
 pub(crate) const NONE: u32 = 4294967295;
@@ -51,23 +51,32 @@ fn code_in(slot: &[u8]) -> u32
     number_of(slot[283], slot[284], slot[285], slot[286])
 }
 
-// Whether the slot is the entry of this question and code, byte for byte.
-fn is_entry(slot: &[u8], front: &mut [u8], code: u32) -> bool
-    requires { ⌜ (length (now slot) ≡ 512) × (length (now front) ≡ 287) ⌝ }
-    ensures { λ r. ⌜ Decides (now (slot .entry) ≡ blockOf (take 283 (now (front .entry)) ++ four code)) r × (take 283 (now (front .exit)) ≡ take 283 (now (front .entry))) ⌝ }
+// The entry of this question and code; only what stands in it is summed.
+fn write_entry(front: &[u8], size: usize, code: u32, slot: &mut [u8])
+    requires { ⌜ Padded (now front) size × (length (now slot) ≡ 512) ⌝ }
+    ensures { λ _. ⌜ now (slot .exit) ≡ blockOf (now (front .entry) ++ four code) ⌝ }
+{
+    let end = 27 + 2 * size;
+    let last = bytes_of(code);
+    write_parts(&front[..end], &last, 283, slot);
+}
+
+// Whether the slot is that entry, byte for byte.
+fn is_entry(slot: &[u8], front: &[u8], size: usize, code: u32) -> bool
+    requires { ⌜ (length (now slot) ≡ 512) × Padded (now front) size ⌝ }
+    ensures { λ r. ⌜ Decides (now (slot .entry) ≡ blockOf (now (front .entry) ++ four code)) r ⌝ }
 {
     let mut entry = [0u8; 512];
-    finish(front, code);
-    write_bytes(front, &mut entry);
+    write_entry(front, size, code, &mut entry);
     alike(slot, &entry)
 }
 
 // The question is compared first, since most slots have another.
-fn recall(slot: &[u8], front: &mut [u8], run: Run) -> Found
-    requires { ⌜ (length (now slot) ≡ 512) × ((length (now front) ≡ 287) × Ticks (run .ticks)) ⌝ }
-    ensures { λ r. ⌜ Recalls (now (slot .entry)) (take 283 (now (front .entry))) (runOf run) r × (take 283 (now (front .exit)) ≡ take 283 (now (front .entry))) ⌝ }
+fn recall(slot: &[u8], front: &[u8], size: usize, run: Run) -> Found
+    requires { ⌜ (length (now slot) ≡ 512) × (Padded (now front) size × Ticks (run .ticks)) ⌝ }
+    ensures { λ r. ⌜ Recalls (now (slot .entry)) (now (front .entry)) (runOf run) r ⌝ }
 {
-    if !alike(&slot[..283], &front[..283]) {
+    if !alike(&slot[..283], front) {
         return Found::Nothing;
     }
     let code = code_in(slot);
@@ -76,39 +85,39 @@ fn recall(slot: &[u8], front: &mut [u8], run: Run) -> Found
             return Found::Nothing;
         }
     }
-    if is_entry(slot, front, code) {
+    if is_entry(slot, front, size, code) {
         Found::Code(code)
     } else {
         Found::Nothing
     }
 }
 
-fn look(book: &[u8], at: usize, front: &mut [u8], run: Run) -> Found
-    requires { ⌜ (512 * suc at ≤ length (now book)) × ((length (now front) ≡ 287) × Ticks (run .ticks)) ⌝ }
-    ensures { λ r. ⌜ Recalls (blockAt (now (book .entry)) at) (take 283 (now (front .entry))) (runOf run) r × (take 283 (now (front .exit)) ≡ take 283 (now (front .entry))) ⌝ }
+fn look(book: &[u8], at: usize, front: &[u8], size: usize, run: Run) -> Found
+    requires { ⌜ (512 * suc at ≤ length (now book)) × (Padded (now front) size × Ticks (run .ticks)) ⌝ }
+    ensures { λ r. ⌜ Recalls (blockAt (now (book .entry)) at) (now (front .entry)) (runOf run) r ⌝ }
 {
     let from = 512 * at;
     let to = from + 512;
-    recall(&book[from..to], front, run)
+    recall(&book[from..to], front, size, run)
 }
 
 // A question that is not laid out is not looked for.
-pub(crate) fn seek(laid: bool, book: &[u8], at: usize, front: &mut [u8], run: Run) -> Found
-    requires { ⌜ (512 * suc at ≤ length (now book)) × ((length (now front) ≡ 287) × Ticks (run .ticks)) ⌝ }
-    ensures { λ r. ⌜ Sought laid (blockAt (now (book .entry)) at) (take 283 (now (front .entry))) (runOf run) r × (take 283 (now (front .exit)) ≡ take 283 (now (front .entry))) ⌝ }
+pub(crate) fn seek(laid: bool, book: &[u8], at: usize, front: &[u8], size: usize, run: Run) -> Found
+    requires { ⌜ (512 * suc at ≤ length (now book)) × (Ready laid (now front) size × Ticks (run .ticks)) ⌝ }
+    ensures { λ r. ⌜ Sought laid (blockAt (now (book .entry)) at) (now (front .entry)) (runOf run) r ⌝ }
 {
     if !laid {
         return Found::Nothing;
     }
-    look(book, at, front, run)
+    look(book, at, front, size, run)
 }
 
-// The slot becomes the block of these first bytes.
-pub(crate) fn store(book: &mut [u8], at: usize, front: &[u8])
-    requires { ⌜ (512 * suc at ≤ length (now book)) × (length (now front) ≤ 510) ⌝ }
-    ensures { λ _. ⌜ now (book .exit) ≡ put (now (book .entry)) at (blockOf (now (front .entry))) ⌝ }
+// The slot becomes the entry.
+pub(crate) fn keep(book: &mut [u8], at: usize, front: &[u8], size: usize, code: u32)
+    requires { ⌜ (512 * suc at ≤ length (now book)) × Padded (now front) size ⌝ }
+    ensures { λ _. ⌜ Keeps (now (book .entry)) (now (book .exit)) at (now (front .entry)) code ⌝ }
 {
     let from = 512 * at;
     let to = from + 512;
-    write_bytes(front, &mut book[from..to]);
+    write_entry(front, size, code, &mut book[from..to]);
 }

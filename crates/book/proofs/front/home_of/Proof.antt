@@ -58,6 +58,9 @@ loop-again c =
     let i = c .before .before .loop .i in
     turn _ i _ (omega arith) (c .shared-slice-known .given (2 + i)) (c .before .before .loop .inv)
 
+cast-result : tie.Need-cast-result Inv-loop μ-loop
+cast-result c = omega (arith, c .before .loop .inv)
+
 rem-result : tie.Need-rem-result Inv-loop μ-loop
 rem-result c = omega arith
 
@@ -80,5 +83,6 @@ home-of-spec =
     add-i
     loop-less
     loop-again
+    cast-result
     rem-result
     returns)

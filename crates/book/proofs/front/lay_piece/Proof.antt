@@ -163,11 +163,13 @@ same-length-3 c = long (c .before .before .before .before)
 
 returns-5 : tie.Need-returns-5
 returns-5 c =
-    let d = c .before .before .before .before in let e = d .before .before .before .before .before .before in let b = d .before .before .before .before .before .before .before .before .before .before .before .before .before in let w = d .write-words2 in let v = e .write-words in
-    body-is (b .args .band) (list d) (now (b .args .body)) (v .last .1 .0) (w .last .1 .0) (size d) (b .pre) (few d)
-    (wrote (wordsAsked (part e) (machine (b .args .band))) (sharp-words-asked (part e) (machine (b .args .band))) (words (machine (b .args .band))) (part e) (v .last .1 .0) (v .result) (v .ensures) (d .before .before .enum-told2 .given .1) ∙ ap words (same e))
-    (wrote (wordsAsked (part-2 d) (list d)) (sharp-words-asked (part-2 d) (list d)) (words (list d)) (part-2 d) (w .last .1 .0) (w .result) (w .ensures) (c .enum-told4 .given .1))
-    (size-is d)
+    let d = c .before .before .before .before in let e = d .before .before .before .before .before .before in let b = d .before .before .before .before .before .before .before .before .before .before .before .before .before in let w = d .write-words2 in let v = e .write-words in (
+      few d,
+      body-is (b .args .band) (list d) (now (b .args .body)) (v .last .1 .0) (w .last .1 .0) (size d) (b .pre) (few d)
+          (wrote (wordsAsked (part e) (machine (b .args .band))) (sharp-words-asked (part e) (machine (b .args .band))) (words (machine (b .args .band))) (part e) (v .last .1 .0) (v .result) (v .ensures) (d .before .before .enum-told2 .given .1) ∙ ap words (same e))
+          (wrote (wordsAsked (part-2 d) (list d)) (sharp-words-asked (part-2 d) (list d)) (words (list d)) (part-2 d) (w .last .1 .0) (w .result) (w .ensures) (c .enum-told4 .given .1))
+          (size-is d),
+    )
 
 pub lay-piece-spec : {M : Type 1} → statement M
 lay-piece-spec =

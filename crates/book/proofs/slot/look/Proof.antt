@@ -3,7 +3,6 @@ use mathlib.Core.Path.{subst}
 use mathlib.Core.List.{List}
 use Prim.Native.Nat.{ℕ}
 use borrow.Author.Needs.{needs}
-use lib.ListN.{take}
 use denote.Ref.{now}
 use Rattle.piece.specs.Numbers.{runOf}
 use Rattle.book.specs.Steps.{Recalls}
@@ -29,23 +28,12 @@ part-recall-end c = search needs
 recall-requires : tie.Need-recall-requires
 recall-requires c κs = search needs
 
-same-length : tie.Need-same-length
-same-length c = search needs
-
 returns : tie.Need-returns
 returns c =
-    let a = c .before .before .before .before .before .before .before .args in let w = c .before .before .recall in
-    (subst (λ (l : List ℕ). Recalls l (take 283 (now (a .front))) (runOf (a .run)) (w .result)) (part-slot (now (a .book)) (a .at)) (w .ensures .0), w .ensures .1)
+    let a = c .before .before .before .before .args in
+    subst (λ (l : List ℕ). Recalls l (now (a .front)) (runOf (a .run)) (c .recall .result)) (part-slot (now (a .book)) (a .at)) (c .recall .ensures)
 
 pub look-spec : {M : Type 1} → statement M
 look-spec =
     tie.close
-    (tie.spec
-    mul-from
-    add-to
-    sub-recall
-    part-recall-start
-    part-recall-end
-    recall-requires
-    same-length
-    returns)
+    (tie.spec mul-from add-to sub-recall part-recall-start part-recall-end recall-requires returns)
