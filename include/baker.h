@@ -1,5 +1,5 @@
 /*
- * The exact shadow baker: every public call, for C.
+ * The exact shadow baker: its calls for C.
  *
  * Link with libbaker.a (x86-64 Linux). Every call takes every number, ends, keeps no state and
  * allocates nothing; its contract stands beside its code in crates/baker/src, and crates/baker/proofs
