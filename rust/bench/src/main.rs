@@ -5,7 +5,7 @@
 mod scenes;
 
 use differ::{Baker, Calls, Plain};
-use scenes::{bake_runs, exported, far_run, full_room, near_run, piece_of, typical_room};
+use scenes::{bake_runs, exported, far_run, full_room, near_run, piece_of, questions, typical_room, SLOTS};
 use second::{Piece, Run};
 use std::hint::black_box;
 use std::time::Instant;
@@ -109,7 +109,7 @@ fn rows() -> Vec<Row> {
 
 /// A bake of 10,000 runs over the typical room, by each of the ways there are.
 fn bakes() -> Vec<Row> {
-    let (fresh, again) = (bake_runs(10_000, 1), bake_runs(10_000, 4));
+    let fresh = bake_runs(10_000, 1);
     let (same, by_verdict) = (fresh.clone(), fresh.clone());
     let image = gen::blocks::image(&typical_room());
     vec![
@@ -124,8 +124,24 @@ fn bakes() -> Vec<Row> {
             by_verdict.len()
         }),
         row("bake of 10,000 runs, book, all new", "runs", move |calls| asks(calls, &same)),
-        row("bake of 10,000 runs, book, each 4 times", "runs", move |calls| asks(calls, &again)),
+        bake_again("a first bake through the book", &[0, 1]),
+        bake_again("a second bake through the book", &[0, 0]),
     ]
+}
+
+/// The bakes in turn over one book: a bake finds all its questions remembered where it comes twice, and none where
+/// another came between, since both fill the same slots.
+fn bake_again(name: &'static str, bakes: &[u64]) -> Row {
+    let bakes: Vec<_> = bakes.iter().map(|&bake| questions(bake)).collect();
+    row(name, "asks", move |calls| {
+        let mut book = vec![0; SLOTS * 512];
+        let mut asks = 0;
+        for (run, piece) in bakes.iter().cycle().take(200).flatten() {
+            black_box(calls.ask(&mut book, black_box(run), piece));
+            asks += 1;
+        }
+        asks
+    })
 }
 
 fn verdicts(calls: &dyn Calls, questions: &[(Run, Piece)]) -> usize {
@@ -147,7 +163,7 @@ fn rooms(calls: &dyn Calls, runs: &[Run], image: &[u8]) -> usize {
 /// Every run asked against every piece of the typical room, with a book of 128 slots.
 fn asks(calls: &dyn Calls, runs: &[Run]) -> usize {
     let room = typical_room();
-    let mut book = vec![0; 128 * 512];
+    let mut book = vec![0; SLOTS * 512];
     for run in runs {
         for piece in &room {
             black_box(calls.ask(&mut book, black_box(run), piece));

@@ -65,6 +65,25 @@ pub fn bake_runs(count: usize, times: usize) -> Vec<Run> {
         .collect()
 }
 
+/// Slots of the book that bakes are timed with.
+pub const SLOTS: usize = 128;
+
+/// Questions of a bake over the typical room, one for a slot, so that a book remembers all of them.
+pub fn questions(bake: u64) -> Vec<(Run, Piece)> {
+    let room = typical_room();
+    let mut taken = [false; SLOTS];
+    let mut chosen = Vec::new();
+    for (index, run) in bake_runs(1_000, 1).into_iter().enumerate() {
+        let piece = &room[(index + bake as usize) % room.len()];
+        let run = Run { ticks: run.ticks + bake as u32, ..run };
+        let home = second::book::home(&second::book::entry(&run, piece, 0), SLOTS);
+        if !std::mem::replace(&mut taken[home], true) {
+            chosen.push((run, piece.clone()));
+        }
+    }
+    chosen
+}
+
 /// The numbers of an exported footprint of 64 corners.
 pub fn exported() -> Vec<f32> {
     let rng = &mut Rng::of_case(13, 0);
@@ -86,6 +105,24 @@ mod tests {
                 assert_eq!(verdict(&far_run(index, &piece), &piece), Ok(CLEAR));
             }
         }
+    }
+
+    #[test]
+    fn a_second_bake_is_remembered_and_another_is_not() {
+        let mut book = vec![0; SLOTS * 512];
+        let mut bake = |of: u64, remembered: bool| {
+            for (run, piece) in questions(of) {
+                assert_eq!(
+                    second::book::ask(&mut book, &run, &piece).map(|asked| asked.remembered),
+                    Ok(remembered)
+                );
+            }
+        };
+        assert!(questions(0).len() > 120);
+        bake(0, false);
+        bake(0, true);
+        bake(1, false);
+        bake(0, false);
     }
 
     #[test]

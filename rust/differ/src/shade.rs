@@ -26,8 +26,19 @@ fn written(program: &str, input: &[u8]) -> std::io::Result<Vec<u8>> {
 
 /// Every kind of answer that the program can give.
 pub const KINDS: [&str; 14] = [
-    "refused run 2", "refused run 3", "refused run 4", "refused 1", "refused 2", "refused 3",
-    "refused 4", "refused 5", "refused 6", "refused 7", "refused 8", "refused 9", "pieces none",
+    "refused run 2",
+    "refused run 3",
+    "refused run 4",
+    "refused 1",
+    "refused 2",
+    "refused 3",
+    "refused 4",
+    "refused 5",
+    "refused 6",
+    "refused 7",
+    "refused 8",
+    "refused 9",
+    "pieces none",
     "pieces some",
 ];
 

@@ -17,8 +17,7 @@ fn difference(part: u64, parts: u64) -> Option<u32> {
 
 fn main() -> ExitCode {
     let parts = thread::available_parallelism().map_or(1, |n| n.get() as u64);
-    let workers: Vec<_> =
-        (0..parts).map(|part| thread::spawn(move || difference(part, parts))).collect();
+    let workers: Vec<_> = (0..parts).map(|part| thread::spawn(move || difference(part, parts))).collect();
     match workers.into_iter().filter_map(|worker| worker.join().unwrap()).min() {
         None => {
             println!("4294967296 patterns agree");
