@@ -4,13 +4,13 @@ use mathlib.Core.Logic.{⊎-elim}
 use mathlib.Core.List.{List, _++_}
 use Prim.Native.Nat.{ℕ, zero, suc, _+_, _*_, _-_, _%_, _≤_, _<_}
 use native.Mathlib.Omega.{arith}
-use lib.ListN.{length, List·getD-append, List·getD-eq-default, length-append}
-use lib.Seq.{getD-append-add}
+use lib.ListN.{length, take, drop, List·getD-append, List·getD-eq-default, length-append}
+use lib.Seq.{ext-getD, length-take-le, getD-take, getD-drop, getD-append-add}
 use Rattle.whole.proofs.Order.{ℕ-or}
-use Rattle.block.specs.Layout.{byte, sum, plainSum, weighedSum, filled}
-use Rattle.block.specs.Scan.{Alike, Begins, SumsAt, Clean}
-use Rattle.block.proofs.Bytes.{filled-at, filled-length, sum-same, sum-split}
-use Rattle.block.proofs.Mid.{mid, mid-before, mid-in, mid-after}
+use Rattle.block.specs.Layout.{byte, sum, plainSum, weighedSum, filled, blockOf}
+use Rattle.block.specs.Scan.{Alike, Begins, SumsAt, SealedAs, Clean}
+use Rattle.block.proofs.Bytes.{filled-at, filled-length, sum-same, sum-split, plain-same, weighed-same, block-at, block-sealed, block-is}
+use Rattle.block.proofs.Mid.{mid, part-length, mid-before, mid-in, mid-after}
 
 -- a sum goes no further than what is not zero
 sum-zero : (f : ℕ → ℕ) (n : ℕ) → ((i : ℕ) → i < n → f i ≡ 0) → sum f n ≡ 0
@@ -80,3 +80,59 @@ module _ (first last : List ℕ) (at : ℕ) (k : length first ≤ at) (h : at + 
     weighed-parts =
         let o = sum-same (λ i. (510 - i) * byte first i) (λ i. (510 - (0 + i)) * byte first i) (length first) (λ i l. let e : i ≡ 0 + i = omega arith in ap (λ m. (510 - m) * byte first i) e) in
         ap (λ n. n % 255) (sums (λ i b. (510 - i) * b) (λ i. omega arith) ∙ omega (arith, o, a .weighed-is, b .weighed-is))
+
+  -- ---- a block that holds both, and one that is made of them
+  module _ (block : List ℕ) (n : length block ≡ 512) where
+    size : at + length last - at ≡ length last
+    size = omega arith
+
+    module _ (g : Alike block both) where
+      pub held-first : take (length first) block ≡ first
+      held-first =
+          let e = length-take-le (length first) block (omega arith) in
+          ext-getD 0 (take (length first) block) first e (λ i l. getD-take (length first) block i 0 (omega arith) ∙ g i (omega arith) ∙ both-first i (omega arith))
+
+      pub held-gap : Clean block (length first) at
+      held-gap i l r = g i (omega arith) ∙ both-first i r ∙ List·getD-eq-default first 0 {n = i} l
+
+      pub held-last : take (at + length last - at) (drop at block) ≡ last
+      held-last =
+          let e = part-length block at (at + length last - at) (omega arith) in
+          ext-getD 0 (take (at + length last - at) (drop at block)) last (e ∙ size) (λ j l. getD-take (at + length last - at) (drop at block) j 0 (omega arith) ∙ getD-drop at block j 0 ∙ g (at + j) (omega arith) ∙ both-last j)
+
+      pub held-rest : Clean block (at + length last) 510
+      held-rest i l r =
+          let d : at + (i - at) ≡ i = omega arith in
+          g i r ∙ ap (byte both) (sym d) ∙ both-last (i - at) ∙ List·getD-eq-default last 0 {n = i - at} (omega arith)
+
+    pub held : take (length first) block ≡ first → Clean block (length first) at → take (at + length last - at) (drop at block) ≡ last → Clean block (at + length last) 510 → Alike block both
+    held e z f y i r =
+        ⊎-elim
+        (λ (q : at ≤ i). let d : at + (i - at) ≡ i = omega arith in
+        ⊎-elim
+        (λ (p : length last ≤ i - at). y i (omega arith) r ∙ sym (ap (byte both) (sym d) ∙ both-last (i - at) ∙ List·getD-eq-default last 0 {n = i - at} p))
+        (λ (p : i - at < length last).
+        ap (byte block) (sym d)
+        ∙ sym (getD-drop at block (i - at) 0)
+        ∙ sym (getD-take (at + length last - at) (drop at block) (i - at) 0 (omega arith))
+        ∙ ap (λ (l : List ℕ). byte l (i - at)) f
+        ∙ sym (ap (byte both) (sym d) ∙ both-last (i - at)))
+        (ℕ-or (length last) (i - at)))
+        (λ (q : i < at).
+        ⊎-elim
+        (λ (p : length first ≤ i). z i p q ∙ sym (both-first i q ∙ List·getD-eq-default first 0 {n = i} p))
+        (λ (p : i < length first). sym (getD-take (length first) block i 0 p) ∙ ap (λ (l : List ℕ). byte l i) e ∙ sym (both-first i q))
+        (ℕ-or (length first) i))
+        (ℕ-or at i)
+
+    pub made : Alike block both → SealedAs both block → block ≡ blockOf both
+    made g s = block-is block both both-few n (record { first = s .first ∙ sym (plain-same block both g); second = s .second ∙ sym (weighed-same block both g) }) g
+
+  module _ (block : List ℕ) (e : block ≡ blockOf both) where
+    pub made-alike : Alike block both
+    made-alike i r = ap (λ (l : List ℕ). byte l i) e ∙ block-at both both-few i r
+
+    pub made-sealed : SealedAs both block
+    made-sealed =
+        let s = block-sealed both both-few in let g : Alike (blockOf both) both = block-at both both-few in
+        record { first = ap (λ (l : List ℕ). byte l 510) e ∙ s .first ∙ plain-same (blockOf both) both g; second = ap (λ (l : List ℕ). byte l 511) e ∙ s .second ∙ weighed-same (blockOf both) both g }

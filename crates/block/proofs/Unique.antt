@@ -1,5 +1,6 @@
 -- Two outcomes that both meet a public contract, answer and later bytes, are equal. Assumes nothing.
 use mathlib.Core.Path.{_≡_, refl, sym, ap, subst, _∙_}
+use mathlib.Core.Bool.{Bool, true, false}
 use mathlib.Core.List.{List, _++_}
 use Prim.Native.Nat.{ℕ}
 use lib.IntN.{ℤ}
@@ -13,6 +14,7 @@ use Rattle.refusal.specs.Said.{said}
 use Rattle.refusal.specs.declared.Refusal.{Refusal}
 use Rattle.refusal.specs.declared.Checked.{Checked}
 use Rattle.refusal.specs.declared.Checked.the-variants.{Good, Refused}
+use Rattle.piece.specs.Decide.{Decides}
 use Rattle.piece.specs.declared.Run.{Run}
 use Rattle.piece.specs.declared.motion.Verdict as told
 use Rattle.piece.specs.declared.motion.Verdict.the-variants.{Clear, Mark, Refused as Unjudged}
@@ -24,7 +26,7 @@ use Rattle.block.specs.declared.RunRead.{RunRead}
 use Rattle.block.specs.declared.RunRead.the-variants.{Found, NoRun}
 use Rattle.block.specs.declared.PieceRead.{PieceRead}
 use Rattle.block.specs.Layout.{words, headerBlock, runBlock, pieceBlock, blockOf, filled}
-use Rattle.block.specs.Reading.{headerChecks, runBlockChecks, pieceBlockChecks, headerAsked, partsAsked, wordsAsked, runAsked, pieceAsked, HeaderSays, RunIn, RunSays, Holds, PieceFound, PieceSays, Writes}
+use Rattle.block.specs.Reading.{headerChecks, runBlockChecks, pieceBlockChecks, headerAsked, partsAsked, PartsIn, wordsAsked, runAsked, pieceAsked, HeaderSays, RunIn, RunSays, Holds, PieceFound, PieceSays, Writes}
 use Rattle.block.specs.Verdicts.{VerdictOn, verdictInChecks, VerdictInSays}
 use Rattle.block.proofs.Found.{refused-one}
 use Rattle.block.proofs.Headers.{header-passes, header-one}
@@ -41,6 +43,13 @@ writes-one cs h made before a b (Refused x) (Refused y) f g = (ap Refused (refus
 
 pub write-parts-one : (first last : List ℕ) (at : ℕ) (before a b : List ℕ) (r s : Checked) → Writes (partsAsked before first last at) (blockOf (filled at first ++ last)) before a r → Writes (partsAsked before first last at) (blockOf (filled at first ++ last)) before b s → (r ≡ s) × (a ≡ b)
 write-parts-one first last at before a b r s = writes-one (partsAsked before first last at) (sharp-parts-asked before first last at) (blockOf (filled at first ++ last)) before a b r s
+
+-- a test has one answer
+pub is-parts-one : (first last : List ℕ) (at : ℕ) (l : List ℕ) (r s : Bool) → Decides (PartsIn first last at l) r → Decides (PartsIn first last at l) s → r ≡ s
+is-parts-one first last at l true true f g = refl
+is-parts-one first last at l true false f g = absurd (g f)
+is-parts-one first last at l false true f g = absurd (f g)
+is-parts-one first last at l false false f g = refl
 
 pub write-words-one : (numbers : List ℤ) (before a b : List ℕ) (r s : Checked) → Writes (wordsAsked before numbers) (words numbers) before a r → Writes (wordsAsked before numbers) (words numbers) before b s → (r ≡ s) × (a ≡ b)
 write-words-one numbers before a b r s = writes-one (wordsAsked before numbers) (sharp-words-asked before numbers) (words numbers) before a b r s

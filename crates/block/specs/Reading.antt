@@ -17,7 +17,7 @@ use Rattle.block.specs.declared.HeaderRead.the-variants.{Count, NoHeader
 use Rattle.block.specs.declared.RunRead.{RunRead}
 use Rattle.block.specs.declared.RunRead.the-variants.{Found, NoRun}
 use Rattle.block.specs.declared.PieceRead.{PieceRead}
-use Rattle.block.specs.Layout.{byte, plainSum, weighedSum, name, headerBlock, runNumbers, runBlock, pieceNumbers, pieceBlock}
+use Rattle.block.specs.Layout.{byte, plainSum, weighedSum, name, headerBlock, runNumbers, runBlock, pieceNumbers, pieceBlock, filled, blockOf}
 
 -- ---- the checks of a block's own bytes
 -- a block has 512 bytes
@@ -150,6 +150,12 @@ headerAsked l n = lengthCheck l ∷ demand (Pieces n) (refuse 3 5 0) ∷ []
 -- first bytes and others from byte `at` on, within 510
 unfoldable pub partsAsked : List ℕ → List ℕ → List ℕ → ℕ → List Check
 partsAsked l first last at = lengthCheck l ∷ demand ((length first ≤ at) × (at + length last ≤ 510)) (refuse 1 0 0) ∷ []
+
+-- and the block that is made of them
+pub record PartsIn (first last : List ℕ) (at : ℕ) (l : List ℕ) : Type 0 where
+  pub begin : length first ≤ at
+  pub end : at + length last ≤ 510
+  pub same : l ≡ blockOf (filled at first ++ last)
 
 -- numbers to be put into as many pairs of bytes; number i stands at byte 2·i
 abbrev pub Wide : List ℤ → ℕ → Type 0

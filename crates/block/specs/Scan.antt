@@ -6,7 +6,7 @@ use lib.IntN.{ℤ, pos}
 use lib.ListN.{length, getD}
 use Rattle.piece.specs.declared.Run.{Run}
 use Rattle.piece.specs.declared.Band.{Band}
-use Rattle.block.specs.Layout.{byte, sum, name}
+use Rattle.block.specs.Layout.{byte, sum, plainSum, weighedSum, name}
 use Rattle.block.specs.Word.{Spelt}
 
 -- the first 510 bytes are the same
@@ -29,6 +29,11 @@ pub record SumsAt (l : List ℕ) (at plain weighed : ℕ) : Type 0 where
   pub weighed-is : weighed ≡ sum (λ i. (510 - (at + i)) * byte l i) (length l)
   pub plain-most : plain ≤ 255 * length l
   pub weighed-most : weighed ≤ 130050 * length l
+
+-- bytes 510 and 511 of a block are the check of these bytes
+pub record SealedAs (l block : List ℕ) : Type 0 where
+  pub first : byte block 510 ≡ plainSum l
+  pub second : byte block 511 ≡ weighedSum l
 
 -- r is the first byte at or after `from` that is not zero, or 510
 pub record FirstByte (l : List ℕ) (from r : ℕ) : Type 0 where

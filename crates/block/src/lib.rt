@@ -13,6 +13,7 @@ mod word;
 pub use fill::write_words;
 pub use header::read_header;
 pub use header::write_header;
+pub use parts::is_parts;
 pub use parts::write_parts;
 use piece::Band;
 use piece::Run;

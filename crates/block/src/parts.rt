@@ -1,6 +1,8 @@
 // A block of two parts with zeros between them: what stands in the parts alone is summed.
 use crate::fill::clear;
 use crate::fill::copy;
+use crate::scan::alike;
+use crate::scan::clean;
 use crate::sums::Sums;
 use refusal::Checked;
 use refusal::Refusal;
@@ -8,9 +10,10 @@ ghost use mathlib.Core.Path.{_≡_};
 ghost use mathlib.Core.List.{_++_};
 ghost use Prim.Native.Nat.{_+_, _≤_};
 ghost use lib.ListN.{length};
+ghost use Rattle.piece.specs.Decide.{Decides};
 ghost use Rattle.block.specs.Layout.{filled, blockOf};
-ghost use Rattle.block.specs.Reading.{Writes, partsAsked};
-ghost use Rattle.block.specs.Scan.{Alike, SumsAt};
+ghost use Rattle.block.specs.Reading.{Writes, partsAsked, PartsIn};
+ghost use Rattle.block.specs.Scan.{Alike, SumsAt, SealedAs};
 
 // The sums of bytes that stand in a block from byte `at` on: the largest are 130,050 and 66,325,500.
 fn sums_at(bytes: &[u8], at: usize) -> Sums
@@ -61,4 +64,60 @@ pub fn write_parts(first: &[u8], last: &[u8], at: usize, block: &mut [u8]) -> Ch
     block[510] = ((head.plain + tail.plain) % 255) as u8;
     block[511] = ((head.weighed + tail.weighed) % 255) as u8;
     Checked::Good
+}
+
+// Whether the first 510 bytes are those of the two parts.
+fn holds(first: &[u8], last: &[u8], at: usize, block: &[u8]) -> bool
+    requires { ⌜ (length (now first) ≤ at) × ((at + length (now last) ≤ 510) × (length (now block) ≡ 512)) ⌝ }
+    ensures { λ r. ⌜ Decides (Alike (now (block .entry)) (filled at (now (first .entry)) ++ now (last .entry))) r ⌝ }
+{
+    let start = first.len();
+    let end = at + last.len();
+    if !alike(&block[..start], first) {
+        return false;
+    }
+    if !clean(block, start, at) {
+        return false;
+    }
+    if !alike(&block[at..end], last) {
+        return false;
+    }
+    clean(block, end, 510)
+}
+
+// Whether the last two bytes are the check of the two parts.
+fn is_sealed(first: &[u8], last: &[u8], at: usize, block: &[u8]) -> bool
+    requires { ⌜ (length (now first) ≤ at) × ((at + length (now last) ≤ 510) × (length (now block) ≡ 512)) ⌝ }
+    ensures { λ r. ⌜ Decides (SealedAs (filled at (now (first .entry)) ++ now (last .entry)) (now (block .entry))) r ⌝ }
+{
+    let head = sums_at(first, 0);
+    let tail = sums_at(last, at);
+    let plain = block[510] as u32;
+    let weighed = block[511] as u32;
+    if plain != (head.plain + tail.plain) % 255 {
+        return false;
+    }
+    weighed == (head.weighed + tail.weighed) % 255
+}
+
+// Whether a block is the one that write_parts makes.
+pub fn is_parts(first: &[u8], last: &[u8], at: usize, block: &[u8]) -> bool
+    ensures { λ r. ⌜ Decides (PartsIn (now (first .entry)) (now (last .entry)) at (now (block .entry))) r ⌝ }
+{
+    if block.len() != 512 {
+        return false;
+    }
+    if at < first.len() {
+        return false;
+    }
+    if 510 < at {
+        return false;
+    }
+    if 510 - at < last.len() {
+        return false;
+    }
+    if !holds(first, last, at, block) {
+        return false;
+    }
+    is_sealed(first, last, at, block)
 }

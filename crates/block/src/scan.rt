@@ -15,15 +15,31 @@ ghost use Rattle.block.specs.Word.{Spelt};
 ghost use Rattle.block.specs.Reading.{unnamedCheck};
 ghost use Rattle.block.specs.Scan.{Clean, FirstByte, RunAt, BandAt, CornersAt};
 
-// Whether the bytes from here to 509 are zero. No byte ends the loop early, so that it can go by many bytes at a time.
-fn clean(block: &[u8], from: usize) -> bool
-    requires { ⌜ (from ≤ 510) × (length (now block) ≡ 512) ⌝ }
-    ensures { λ r. ⌜ Decides (Clean (now (block .entry)) from 510) r ⌝ }
+// Whether the bytes from here up to there are zero. No byte ends the loop early, so that it can go by many bytes at a time.
+pub(crate) fn clean(block: &[u8], from: usize, to: usize) -> bool
+    requires { ⌜ (from ≤ to) × (to ≤ length (now block)) ⌝ }
+    ensures { λ r. ⌜ Decides (Clean (now (block .entry)) from to) r ⌝ }
 {
     let mut other: u8 = 0;
     let mut i = from;
-    while i < 510 {
+    while i < to {
         if block[i] != 0 {
+            other = 1;
+        }
+        i += 1;
+    }
+    other == 0
+}
+
+// Whether two lists are the same, by many bytes at a time too.
+pub(crate) fn alike(a: &[u8], b: &[u8]) -> bool
+    requires { ⌜ length (now a) ≡ length (now b) ⌝ }
+    ensures { λ r. ⌜ Decides (now (a .entry) ≡ now (b .entry)) r ⌝ }
+{
+    let mut other: u8 = 0;
+    let mut i = 0;
+    while i < a.len() {
+        if a[i] != b[i] {
             other = 1;
         }
         i += 1;
@@ -49,7 +65,7 @@ pub(crate) fn check_unnamed(block: &[u8], from: usize) -> Checked
     requires { ⌜ (from ≤ 510) × (length (now block) ≡ 512) ⌝ }
     ensures { λ r. ⌜ Finds (unnamedCheck (now (block .entry)) from ∷ []) r ⌝ }
 {
-    if clean(block, from) {
+    if clean(block, from, 510) {
         return Checked::Good;
     }
     Checked::Refused(Refusal::Kind(first_byte(block, from)))

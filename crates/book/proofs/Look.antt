@@ -1,10 +1,10 @@
--- What a sound slot is known by: its first bytes and its code. Assumes nothing.
+-- A sound slot's code. Assumes nothing.
 use mathlib.Core.Path.{_≡_, sym, ap, _∙_}
 use mathlib.Core.List.{List, _++_}
 use Prim.Native.Nat.{ℕ, _+_, _*_, _/_, _%_, _<_}
 use native.Mathlib.Omega.{arith}
-use lib.ListN.{length, take, length-append, length-take, List·getD-append}
-use lib.Seq.{ext-getD, length-take-le, getD-take, getD-append-add}
+use lib.ListN.{length, take, length-append, length-take}
+use lib.Seq.{getD-append-add}
 use Rattle.rules.specs.Reach.{Run}
 use Rattle.block.specs.Layout.{byte}
 use Rattle.block.proofs.Bytes.{filled-length, block-at}
@@ -23,11 +23,6 @@ code-of c h = omega arith
 module _ (slot front : List ℕ) (r : Run) (c : ℕ) (n : length front ≡ 283) (s : Sound slot front r c) where
   same-at : (i : ℕ) → i < 510 → byte slot i ≡ byte (front ++ four c) i
   same-at i h = ap (λ (l : List ℕ). byte l i) (s .same) ∙ block-at (front ++ four c) (omega (arith, length-append front (four c))) i h
-
-  pub sound-front : length slot ≡ 512 → take 283 slot ≡ front
-  sound-front h =
-      let a = length-take-le 283 slot (omega arith) in
-      ext-getD 0 (take 283 slot) front (a ∙ sym n) (λ i l. getD-take 283 slot i 0 (omega arith) ∙ same-at i (omega arith) ∙ List·getD-append front (four c) 0 i (omega arith))
 
   code-at : (j : ℕ) → j < 4 → byte slot (283 + j) ≡ byte (four c) j
   code-at j h = same-at (283 + j) (omega arith) ∙ ap (λ m. byte (front ++ four c) (m + j)) (sym n) ∙ getD-append-add front (four c) j 0

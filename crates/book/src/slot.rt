@@ -1,5 +1,6 @@
 // One slot of a book: what it remembers, and its bytes replaced.
 use crate::front::bytes_of;
+use block::is_parts;
 use block::write_parts;
 use piece::Run;
 ghost use mathlib.Core.Path.{_≡_};
@@ -20,22 +21,6 @@ pub(crate) const NONE: u32 = 4294967295;
 pub(crate) enum Found {
     Code(u32),
     Nothing,
-}
-
-// Whether two lists are the same. No byte ends the loop early, so that it can go by many bytes at a time.
-fn alike(a: &[u8], b: &[u8]) -> bool
-    requires { ⌜ length (now a) ≡ length (now b) ⌝ }
-    ensures { λ r. ⌜ Decides (now (a .entry) ≡ now (b .entry)) r ⌝ }
-{
-    let mut other: u8 = 0;
-    let mut i = 0;
-    while i < a.len() {
-        if a[i] != b[i] {
-            other = 1;
-        }
-        i += 1;
-    }
-    other == 0
 }
 
 fn number_of(a: u8, b: u8, c: u8, d: u8) -> u32
@@ -63,22 +48,18 @@ fn write_entry(front: &[u8], size: usize, code: u32, slot: &mut [u8])
 
 // Whether the slot is that entry, byte for byte.
 fn is_entry(slot: &[u8], front: &[u8], size: usize, code: u32) -> bool
-    requires { ⌜ (length (now slot) ≡ 512) × Padded (now front) size ⌝ }
+    requires { ⌜ Padded (now front) size ⌝ }
     ensures { λ r. ⌜ Decides (now (slot .entry) ≡ blockOf (now (front .entry) ++ four code)) r ⌝ }
 {
-    let mut entry = [0u8; 512];
-    write_entry(front, size, code, &mut entry);
-    alike(slot, &entry)
+    let end = 27 + 2 * size;
+    let last = bytes_of(code);
+    is_parts(&front[..end], &last, 283, slot)
 }
 
-// The question is compared first, since most slots have another.
 fn recall(slot: &[u8], front: &[u8], size: usize, run: Run) -> Found
     requires { ⌜ (length (now slot) ≡ 512) × (Padded (now front) size × Ticks (run .ticks)) ⌝ }
     ensures { λ r. ⌜ Recalls (now (slot .entry)) (now (front .entry)) (runOf run) r ⌝ }
 {
-    if !alike(&slot[..283], front) {
-        return Found::Nothing;
-    }
     let code = code_in(slot);
     if code != NONE {
         if 256 * run.ticks < code {

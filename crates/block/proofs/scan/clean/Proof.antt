@@ -13,13 +13,13 @@ abbrev Zero : List ℕ → ℕ → Type 0
 Zero l i = byte l i ≡ 0
 
 abbrev Inv-loop : tie.InvT-loop
-Inv-loop block from other₀ i₀ other i = Flagged (Zero block) from 510 i other
+Inv-loop block from to other₀ i₀ other i = Flagged (Zero block) from to i other
 
 abbrev μ-loop : tie.MeasureT-loop
-μ-loop block from other₀ i₀ other i = 510 - i
+μ-loop block from to other₀ i₀ other i = to - i
 
 loop-holds : tie.Need-loop-holds Inv-loop μ-loop
-loop-holds c = flag-start _ _ 510 (omega arith)
+loop-holds c = flag-start _ _ _ (omega arith)
 
 shared-slice-read-if1 : tie.Need-shared-slice-read-if1 Inv-loop μ-loop
 shared-slice-read-if1 c = omega arith
@@ -33,10 +33,10 @@ loop-less c = omega arith
 loop-again : tie.Need-loop-again Inv-loop μ-loop
 loop-again c =
     let v = c .before .before .before .loop in
-    ⊎-elim (λ w. flag-bad _ _ 510 (v .i) (v .other) (c .if1 .other) (v .inv) (omega arith) (w .0 .taken) (w .1)) (λ w. flag-good _ _ 510 (v .i) (v .other) (c .if1 .other) (v .inv) (omega arith) (w .0 .left) (w .1)) (c .if1 .came)
+    ⊎-elim (λ w. flag-bad _ _ _ (v .i) (v .other) (c .if1 .other) (v .inv) (omega arith) (w .0 .taken) (w .1)) (λ w. flag-good _ _ _ (v .i) (v .other) (c .if1 .other) (v .inv) (omega arith) (w .0 .left) (w .1)) (c .if1 .came)
 
 returns : tie.Need-returns Inv-loop μ-loop
-returns c = flag-end _ _ 510 _ _ (c .before .loop .inv) (omega arith)
+returns c = flag-end _ _ _ _ _ (c .before .loop .inv) (omega arith)
 
 pub clean-spec : {M : Type 1} → statement M
 clean-spec =

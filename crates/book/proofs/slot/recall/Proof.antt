@@ -5,64 +5,41 @@ use mathlib.Core.List.{_++_}
 use Prim.Native.Nat.{ℕ}
 use native.Mathlib.Omega.{arith}
 use borrow.Author.Needs.{needs}
-use borrow.Author.Tests.{not-true}
-use lib.Seq.{length-take-le}
 use denote.Ref.{now}
 use Rattle.piece.specs.Numbers.{runOf}
 use Rattle.piece.proofs.Decide.{yes, no}
 use Rattle.block.specs.Layout.{blockOf}
 use Rattle.book.specs.Entry.{four}
-use Rattle.book.proofs.Look.{padded-length, sound-front, sound-code}
+use Rattle.book.proofs.Look.{padded-length, sound-code}
 use Rattle.book.proofs.slot.recall.Statement.{statement}
 use Rattle.book.proofs.slot.recall.Tie as tie
-
-slice-aggregate-alike : tie.Need-slice-aggregate-alike
-slice-aggregate-alike c = sym (length-take-le 283 (now (c .before .before .before .args .slot)) (omega (arith, c .before .before .before .pre)))
-
-alike-requires : tie.Need-alike-requires
-alike-requires c κs = let b = c .before .before .before in length-take-le 283 (now (b .args .slot)) (omega (arith, b .pre)) ∙ sym (padded-length (now (b .args .front)) (b .args .size) (b .pre .1 .0))
-
-returns : tie.Need-returns
-returns c d s =
-    let b = c .before .before .before .before .before in let a = b .args in
-    no _ (c .before .alike .result) (c .before .alike .ensures) (not-true _ (c .if1 .taken)) (sound-front (now (a .slot)) (now (a .front)) (runOf (a .run)) d (padded-length (now (a .front)) (a .size) (b .pre .1 .0)) s (b .pre .0))
 
 code-in-requires : tie.Need-code-in-requires
 code-in-requires c κs = search needs
 
-mul-if3 : tie.Need-mul-if3
-mul-if3 c = search needs
+mul-if2 : tie.Need-mul-if2
+mul-if2 c = search needs
 
-returns-2 : tie.Need-returns-2
-returns-2 c d s =
-    let b = c .before .before .before .before .before .before .before .before .before in let a = b .args in let code = c .before .before .before .code-in in
+returns : tie.Need-returns
+returns c d s =
+    let b = c .before .before .before .before .before .before in let a = b .args in let code = c .before .before .before .code-in in
     let e : d ≡ code .result = sound-code (now (a .slot)) (now (a .front)) (runOf (a .run)) d (padded-length (now (a .front)) (a .size) (b .pre .1 .0)) s ∙ sym (code .ensures) in
-    ⊎-elim (λ g. c .before .before .if2 .taken (sym e ∙ g)) (λ g. omega arith) (s .possible)
+    ⊎-elim (λ g. c .before .before .if1 .taken (sym e ∙ g)) (λ g. omega arith) (s .possible)
 
 is-entry-requires : tie.Need-is-entry-requires
 is-entry-requires c κs = search needs
 
-returns-3 : tie.Need-returns-3
-returns-3 c =
+returns-2 : tie.Need-returns-2
+returns-2 c =
     let w = c .before .is-entry in let code = c .before .before .before .code-in in let h = code .ok in
-    record { fits = omega arith; possible = ⊎-elim (λ v. inr (v .2 .left)) (λ v. inl (v .left)) (c .before .before .if2 .came); same = yes _ (w .result) (w .ensures) (c .if4 .taken) }
+    record { fits = omega arith; possible = ⊎-elim (λ v. inr (v .2 .left)) (λ v. inl (v .left)) (c .before .before .if1 .came); same = yes _ (w .result) (w .ensures) (c .if3 .taken) }
 
-returns-4 : tie.Need-returns-4
-returns-4 c d s =
-    let b = c .before .before .before .before .before .before .before .before .before in let a = b .args in let w = c .before .is-entry in let code = c .before .before .before .code-in in
+returns-3 : tie.Need-returns-3
+returns-3 c d s =
+    let b = c .before .before .before .before .before .before in let a = b .args in let w = c .before .is-entry in let code = c .before .before .before .code-in in
     let e : d ≡ code .result = sound-code (now (a .slot)) (now (a .front)) (runOf (a .run)) d (padded-length (now (a .front)) (a .size) (b .pre .1 .0)) s ∙ sym (code .ensures) in
-    no _ (w .result) (w .ensures) (c .if4 .left) (s .same ∙ ap (λ (n : ℕ). blockOf (now (a .front) ++ four n)) e)
+    no _ (w .result) (w .ensures) (c .if3 .left) (s .same ∙ ap (λ (n : ℕ). blockOf (now (a .front) ++ four n)) e)
 
 pub recall-spec : {M : Type 1} → statement M
 recall-spec =
-    tie.close
-    (tie.spec
-    slice-aggregate-alike
-    alike-requires
-    returns
-    code-in-requires
-    mul-if3
-    returns-2
-    is-entry-requires
-    returns-3
-    returns-4)
+    tie.close (tie.spec code-in-requires mul-if2 returns is-entry-requires returns-2 returns-3)

@@ -1,4 +1,4 @@
--- `book::slot::alike` decides. The loop's invariant: the flag says whether a byte passed differs. Assumes nothing.
+-- `block::scan::alike` decides. The loop's invariant: the flag says whether a byte passed differs. Assumes nothing.
 use mathlib.Core.Path.{_≡_, ap}
 use mathlib.Core.Logic.{⊎-elim}
 use mathlib.Core.List.{List}
@@ -9,10 +9,10 @@ use lib.ListN.{length}
 use lib.Seq.{ext-getD}
 use denote.Ref.{now}
 use Rattle.piece.proofs.Decide.{yes, no, decide-by}
 use Rattle.block.specs.Layout.{byte}
 use Rattle.block.proofs.Flags.{Flagged, flag-start, flag-bad, flag-good, flag-end}
-use Rattle.book.proofs.slot.alike.Statement.{statement}
-use Rattle.book.proofs.slot.alike.Tie as tie
+use Rattle.block.proofs.scan.alike.Statement.{statement}
+use Rattle.block.proofs.scan.alike.Tie as tie
 
 abbrev Same : List ℕ → List ℕ → ℕ → Type 0
 Same a b i = byte a i ≡ byte b i
