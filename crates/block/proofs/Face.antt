@@ -26,9 +26,6 @@ module _ (l : List ℕ) (from r : ℕ) (f : FirstByte l from r) where
         ap (λ n. refuse 3 n 0) (sym e),
       )
 
-  pub unnamed-good : 510 ≤ r → Passes (unnamedCheck l from ∷ [])
-  unnamed-good h = (λ j g b. b (f .before (from + j) (omega arith) (omega arith)), tt)
-
 -- every letter is the name's
 pub letters : (l : List ℕ) (r : ℕ) → FirstLetter l r → 4 ≤ r → (j : ℕ) → j < 4 → (byte l j ≡ getD name j 0 → ⊥) → ⊥
 letters l r f h j g b = b (f .before j (omega arith))

@@ -52,10 +52,6 @@ laid-numbers a b zs h j k =
     let f = block-at (a ∷ b ∷ words zs) (few a b zs h) (3 + 2 * j) (omega arith) ∙ front-high-at a b zs j in
     omega (arith, e, f)
 
--- two that make one block have the same bytes
-pub laid-one : (l : List ℕ) (ys zs : List ℤ) → Numbers l ys → Numbers l zs → (j : ℕ) → j < 254 → word (getD ys j (pos 0)) ≡ word (getD zs j (pos 0))
-laid-one l ys zs m n j h = m j h ∙ sym (n j h)
-
 -- ---- ranges: what is within reach, two bytes hold
 widen : (low high low′ high′ z : ℤ) → low′ ≤ℤ low → high ≤ℤ high′ → Between low high z → Between low′ high′ z
 widen low high low′ high′ z h k b = record { above = le-trans low′ low z h (b .above); below = le-trans z high high′ (b .below) k }

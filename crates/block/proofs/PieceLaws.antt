@@ -293,18 +293,6 @@ pub count-most : (l : List ℕ) → Passes (blockChecks l ++ pieceBytes l) → b
 unfolding pieceBytes
 count-most l p = passes-right (blockChecks l) (pieceBytes l) p .1 .0 .most
 
-pub number-past : (k : Piece) (j : ℕ) → 5 ≤ j → getD (pieceNumbers k) j (pos 0) ≡ getD (k .corners) (j - 5) (pos 0)
-number-past k zero h = absurd (omega arith)
-number-past k (suc zero) h = absurd (omega arith)
-number-past k (suc (suc zero)) h = absurd (omega arith)
-number-past k (suc (suc (suc zero))) h = absurd (omega arith)
-number-past k (suc (suc (suc (suc zero)))) h = absurd (omega arith)
-number-past k (suc (suc (suc (suc (suc j))))) h =
-    let e : suc (suc (suc (suc (suc j)))) - 5 ≡ j = omega arith in rw e
-
-pub numbers-past : (k : Piece) (j : ℕ) → length (k .corners) ≤ 128 → 133 ≤ j → getD (pieceNumbers k) j (pos 0) ≡ pos 0
-numbers-past k j h g = let l : length (pieceNumbers k) ≤ j = omega arith in List·getD-eq-default (pieceNumbers k) (pos 0) l
-
 pub says-refused : (l : List ℕ) (r : PieceRead) (x : Refusal) → r .found ≡ Refused x → Fault (pieceBlockChecks l) (said x) → Holds r nothing → PieceSays l r
 says-refused l r x e f h = subst (PieceFound l r) (sym e) (record { fault = f; holds = h })
 

@@ -93,9 +93,6 @@ neighbours n i j = eqb (next n i) j || eqb (next n j) i
 abbrev pub meetFlag : Ring → ℕ → ℕ → Bool
 meetFlag r i j = (ltb i j && not (neighbours (r .size) i j)) && meets r i j
 
-eqb-decides : (m n : ℕ) → Decides (m ≡ n) (eqb m n)
-eqb-decides m n = decides _ (eqb m n) (eqb-true m n) (eq-eqb m n)
-
 neighbours-decides : (n i j : ℕ) → Decides (Neighbours n i j) (neighbours n i j)
 neighbours-decides n i j =
     decides _ (neighbours n i j) (λ e. ⊎-elim (λ f. inl (eqb-true _ _ f)) (λ f. inr (eqb-true _ _ f)) (or-yes (eqb (next n i) j) (eqb (next n j) i) e))

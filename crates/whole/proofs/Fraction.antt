@@ -42,9 +42,6 @@ scaled c l t = record { num = c *ℤ t .num; den = c *ℤ t .den; some = pos-mul
 cross : (c n d : ℤ) → (c *ℤ n) *ℤ d ≡ n *ℤ (c *ℤ d)
 cross = vars3 _ λ ρ. simp poly (by-ring _ _ _ tt)
 
-pub scaled-le : (c : ℤ) (l : pos 0 <ℤ c) (t : Frac) → scaled c l t ≼ t
-scaled-le c l t = eq-le _ _ (cross c (t .num) (t .den))
-
 pub le-scaled : (c : ℤ) (l : pos 0 <ℤ c) (t : Frac) → t ≼ scaled c l t
 le-scaled c l t = eq-le _ _ (sym (cross c (t .num) (t .den)))
 
@@ -56,12 +53,7 @@ marks = all2 _ λ a a′ b b′. simp ring (omega arith)
 pub floor-mono : (j k : ℤ) (s t : Frac) → Floor j s → Floor k t → s ≼ t → j ≤ℤ k
 floor-mono j k s t f g h = marks j k (le-then-lt (mark j) s (mark (k +ℤ pos 1)) (f .low) (le-then-lt s t (mark (k +ℤ pos 1)) h (g .high)))
 
--- at most one
-pub floor-one : (j k : ℤ) (t : Frac) → Floor j t → Floor k t → j ≡ k
-floor-one j k t f g =
-    antisym j k (marks j k (le-then-lt (mark j) t (mark (k +ℤ pos 1)) (f .low) (g .high))) (marks k j (le-then-lt (mark k) t (mark (j +ℤ pos 1)) (g .low) (f .high)))
-
--- and one, for a moment at or after 0: the quotient that a division gives
+-- for a moment at or after 0: the quotient that a division gives
 pub floor-is : (t : Frac) → pos 0 ≤ℤ t .num → Floor (quotZ (pos 256 *ℤ t .num) (t .den)) t
 floor-is t h =
     let q = quot (pos 256 *ℤ t .num) (t .den) (nn-mul (pos 256) (t .num) (record { le = tt }) h) (t .some) in

@@ -68,9 +68,6 @@ le-trans = all3 _ λ a a′ b b′ c c′. simp ring (omega arith)
 pub lt-le : (a b : ℤ) → a <ℤ b → a ≤ℤ b
 lt-le = all2 _ λ a a′ b b′. simp ring (omega arith)
 
-pub add-mono : (a b c d : ℤ) → a ≤ℤ b → c ≤ℤ d → (a +ℤ c) ≤ℤ (b +ℤ d)
-add-mono = all4 _ λ a a′ b b′ c c′ d d′. simp ring (omega arith)
-
 -- differences
 pub le-sub : (a b : ℤ) → a ≤ℤ b → pos 0 ≤ℤ (b -ℤ a)
 le-sub = all2 _ λ a a′ b b′. simp ring (omega arith)
