@@ -2,6 +2,7 @@ pub mod Bodies
 pub mod Bytes
 pub mod Face
 pub mod Flags
+pub mod Fletcher
 pub mod Found
 pub mod Headers
 pub mod Laid
