@@ -6,9 +6,9 @@ use lib.IntN.{ℤ}
 use mir.Syntax.{w32}
 use mir.Val.{SFits, toZ, ofZ}
 use mir.Facts.{toZ-ofZ}
+use Rattle.rules.specs.Reach.{run, piece}
 use Rattle.piece.specs.Place.{pt}
 use Rattle.baker.specs.Coded.{Coded}
-use Rattle.baker.specs.Given.{run, piece}
 
 abbrev pub back : ℤ → ℤ
 back z = toZ w32 (ofZ w32 z)

@@ -2,6 +2,7 @@
 use mathlib.Core.Path.{_≡_}
 use Prim.Native.Nat.{ℕ, _+_, _*_, _%_, _^_}
 use Rattle.rules.specs.Refusal.{Refusal}
+use Rattle.rules.specs.Verdict.{NONE}
 use Rattle.refusal.specs.Said.{said}
 use Rattle.refusal.specs.declared.Checked.{Checked}
 use Rattle.refusal.specs.declared.Checked.the-variants as checked
@@ -37,9 +38,9 @@ placedCode placed.Inside = 1
 placedCode placed.On = 2
 placedCode (placed.Refused x) = refusalCode (said x)
 
--- the mark, or FFFFFFFF for clear
+-- as the rules code it
 abbrev pub verdictCode : Verdict → ℕ
-verdictCode verdict.Clear = 0xFFFFFFFF
+verdictCode verdict.Clear = NONE
 verdictCode (verdict.Mark m) = m
 verdictCode (verdict.Refused x) = refusalCode (said x)
 

@@ -7,10 +7,10 @@ use crate::list::put_run;
 use block::RunRead;
 use piece::Band;
 use piece::Run;
+ghost use Rattle.rules.specs.Reach.{run, piece};
 ghost use Rattle.block.specs.Layout.{headerBlock, runBlock, pieceBlock};
 ghost use Rattle.block.specs.Reading.{headerAsked, runAsked, pieceAsked, HeaderSays, RunSays, PieceSays, Writes};
 ghost use Rattle.baker.specs.Coded.{Coded, checkedCode, headerCode};
-ghost use Rattle.baker.specs.Given.{run, piece};
 ghost use Rattle.baker.specs.Listed.{out, runListed, pieceListed};
 
 #[no_mangle]

@@ -4,12 +4,12 @@ use crate::code::placed;
 use crate::code::verdict;
 use piece::Band;
 use piece::Run;
+ghost use Rattle.rules.specs.Reach.{run, piece};
 ghost use Rattle.rules.specs.Good.{runChecks, pieceChecks};
 ghost use Rattle.refusal.specs.Said.{Finds};
 ghost use Rattle.piece.specs.Place.{pt, Lies};
 ghost use Rattle.piece.specs.Tells.{Tells};
 ghost use Rattle.baker.specs.Coded.{Coded, checkedCode, placedCode, verdictCode};
-ghost use Rattle.baker.specs.Given.{run, piece};
 
 #[no_mangle]
 pub extern "C" fn baker_check_run(

@@ -8,11 +8,11 @@ use piece::Band;
 use piece::Run;
 use refusal::Checked;
 use room::Found;
+ghost use Rattle.rules.specs.Reach.{run, piece};
 ghost use Rattle.room.specs.Step.{StepSays};
 ghost use Rattle.room.specs.Verdicts.{VerdictsSay};
 ghost use Rattle.book.specs.Ask.{AskSays};
 ghost use Rattle.baker.specs.Coded.{Coded, countedCode, askedCode};
-ghost use Rattle.baker.specs.Given.{run, piece};
 ghost use Rattle.baker.specs.Listed.{out, stepListed};
 
 #[no_mangle]

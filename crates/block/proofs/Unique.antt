@@ -98,7 +98,7 @@ read-run-one l (NoRun x) (Found s) f g = absurd (never-both (runBlockChecks l) (
 read-run-one l (NoRun x) (NoRun y) f g = ap NoRun (refused-one (runBlockChecks l) (sharp-run-block l) x y f g)
 
 -- ---- read_piece
-holds-one : (r s : PieceRead) (k : Piece) → r .found ≡ s .found → Holds r k → Holds s k → r ≡ s
+pub holds-one : (r s : PieceRead) (k : Piece) → r .found ≡ s .found → Holds r k → Holds s k → r ≡ s
 holds-one r s k e h g =
     let q = h .numbers ∙ sym (g .numbers) in
     λ i. record {

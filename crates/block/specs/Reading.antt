@@ -4,7 +4,7 @@ use mathlib.Core.List.{List, [], _∷_, _++_}
 use Prim.Native.Nat.{ℕ, _+_, _*_, _-_, _≤_, _<_}
 use lib.IntN.{ℤ, pos, negsuc}
 use lib.ListN.{length, getD, replicate}
-use Rattle.rules.specs.Reach.{Between, Corners, Pieces, Run, Piece}
+use Rattle.rules.specs.Reach.{Between, Corners, Pieces, Run, Piece, piece}
 use Rattle.rules.specs.Ring.{ring}
 use Rattle.rules.specs.Refusal.{Refusal, refuse, Check, Passes, Fault, demand, each}
 use Rattle.rules.specs.Good.{Sized, runChecks, pieceChecks}
@@ -118,7 +118,7 @@ pub record Holds (r : PieceRead) (k : Piece) : Type 0 where
 
 -- no corner, and every number zero
 abbrev pub nothing : Piece
-nothing = record { bottom = pos 0; top = pos 0; speed = record { x = pos 0; y = pos 0; z = pos 0 }; corners = [] }
+nothing = piece (pos 0) (pos 0) (pos 0) (pos 0) (pos 0) []
 
 -- a piece block is accepted iff it is the block of that piece, which is good
 pub record PieceGood (l : List ℕ) (r : PieceRead) : Type 0 where

@@ -9,7 +9,7 @@ use lib.Signed.{_≤ℤ_}
 use lib.ListN.{length, getD, take, drop, length-append}
 use lib.Seq.{take-at, drop-at}
 use Rattle.whole.proofs.Order.{le-trans}
-use Rattle.rules.specs.Reach.{Between, Reach, Speed, Run, Piece}
+use Rattle.rules.specs.Reach.{Between, Reach, Speed, Run, Piece, run, piece}
 use Rattle.rules.specs.Ring.{ring as corners}
 use Rattle.rules.proofs.Reach.{RunKnown, PieceKnown}
 use Rattle.block.specs.Layout.{word, words, filled, blockOf, runNumbers, runBody, pieceNumbers, pieceBody}
@@ -61,11 +61,7 @@ run-halves r k = (reach-half (k 0 (omega arith)), (reach-half (k 1 (omega arith)
     low n h = record { le = le→leb n 32767 (omega arith) }
 
 run-of : List ℤ → Run
-run-of l = record {
-  start = record { x = getD l 0 (pos 0); y = getD l 1 (pos 0); z = getD l 2 (pos 0) };
-  speed = record { x = getD l 3 (pos 0); y = getD l 4 (pos 0); z = getD l 5 (pos 0) };
-  ticks = word (getD l 6 (pos 0));
-}
+run-of l = run (getD l 0 (pos 0)) (getD l 1 (pos 0)) (getD l 2 (pos 0)) (getD l 3 (pos 0)) (getD l 4 (pos 0)) (getD l 5 (pos 0)) (word (getD l 6 (pos 0)))
 
 pub run-one : (r s : Run) → RunKnown r → RunKnown s → runBody r ≡ runBody s → r ≡ s
 unfolding runBody run-of
@@ -80,7 +76,7 @@ piece-halves : (k : Piece) → PieceKnown k → Halves (pieceNumbers k)
 piece-halves k h = (reach-half (h .band 0 (omega arith)), (reach-half (h .band 1 (omega arith) .0), (speed-half (h .band 2 (omega arith)), (speed-half (h .band 3 (omega arith)), (speed-half (h .band 4 (omega arith)), corner-halves (k .corners) (h .corners))))))
 
 piece-of : List ℤ → Piece
-piece-of l = record { bottom = getD l 0 (pos 0); top = getD l 1 (pos 0); speed = record { x = getD l 2 (pos 0); y = getD l 3 (pos 0); z = getD l 4 (pos 0) }; corners = drop 5 l }
+piece-of l = piece (getD l 0 (pos 0)) (getD l 1 (pos 0)) (getD l 2 (pos 0)) (getD l 3 (pos 0)) (getD l 4 (pos 0)) (drop 5 l)
 
 body-length : (k : Piece) → PieceKnown k → length (words (pieceNumbers k)) ≡ 10 + 4 * corners (k .corners) .size
 body-length k h = let e = h .sized .even in omega (arith, words-length (pieceNumbers k))

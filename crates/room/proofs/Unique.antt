@@ -21,7 +21,7 @@ use Rattle.refusal.proofs.Unique.{said-one}
 use Rattle.block.specs.Reading.{headerChecks, pieceBlockChecks, PieceIn, Holds, PieceGood}
 use Rattle.block.proofs.PieceLaws.{good-in, piece-passes, piece-one}
 use Rattle.block.proofs.Sharp.{sharp-header, sharp-piece-block}
-use Rattle.block.proofs.Unique.{read-piece-one}
+use Rattle.block.proofs.Unique.{holds-one, read-piece-one}
 use Rattle.room.specs.declared.Counted.{Counted}
 use Rattle.room.specs.declared.Counted.the-variants.{Count, Refused as NoCount}
 use Rattle.room.specs.declared.Found.{Found}
@@ -79,14 +79,7 @@ refusal-one x y a b e = said-one x y (sym (said-zero x) ∙ ap (inBlock 0) e ∙
 -- the same numbers, found and next
 same-step : (s t : Step) (k : Piece) → s .found ≡ t .found → s .next ≡ t .next → Holds (pieceRead s) k → Holds (pieceRead t) k → s ≡ t
 same-step s t k d n h g =
-    let q = h .numbers ∙ sym (g .numbers) in
-    λ i. record {
-      found = d i;
-      band = record { bottom = q i .bottom; top = q i .top; vx = q i .speed .x; vy = q i .speed .y; vz = q i .speed .z };
-      corners = (h .corners ∙ sym (g .corners)) i;
-      count = (h .count ∙ sym (g .count)) i;
-      next = n i;
-    }
+    let q = holds-one (pieceRead s) (pieceRead t) k refl h g in λ i. record { found = d i; band = q i .band; corners = q i .corners; count = q i .count; next = n i }
 
 module _ (image : List ℕ) (place : ℕ) where
   fault-one : (r s : rules.Refusal) → StepFault image place r → StepFault image place s → r ≡ s

@@ -48,3 +48,10 @@ pub record Piece : Type 0 where
   pub top : ℤ
   pub speed : Vec
   pub corners : List ℤ
+
+-- the run and the piece that numbers say
+abbrev pub run : ℤ → ℤ → ℤ → ℤ → ℤ → ℤ → ℕ → Run
+run x y z vx vy vz t = record { start = record { x = x; y = y; z = z }; speed = record { x = vx; y = vy; z = vz }; ticks = t }
+
+abbrev pub piece : ℤ → ℤ → ℤ → ℤ → ℤ → List ℤ → Piece
+piece b t vx vy vz l = record { bottom = b; top = t; speed = record { x = vx; y = vy; z = vz }; corners = l }

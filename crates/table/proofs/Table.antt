@@ -2,7 +2,7 @@
 use mathlib.Core.List.{List, [], _∷_}
 use Prim.Native.Nat.{ℕ}
 use lib.IntN.{ℤ, pos, negsuc}
-use Rattle.rules.specs.Reach.{Run, Piece}
+use Rattle.rules.specs.Reach.{Run, Piece, run, piece as pieceSaid}
 use Rattle.rules.specs.Ring.{Pt, ring, next}
 use Rattle.rules.specs.Good.{pieceChecks}
 use Rattle.rules.specs.Place.{Count}
@@ -31,10 +31,7 @@ pub data Row : Type 0 where
 
 -- with the band 0 to 32, still
 abbrev pub piece : List ℤ → Piece
-piece l = record { bottom = pos 0; top = pos 32; speed = record { x = pos 0; y = pos 0; z = pos 0 }; corners = l }
-
-abbrev pub run : ℤ → ℤ → ℤ → ℤ → ℤ → ℤ → ℕ → Run
-run x y z u v w t = record { start = record { x = x; y = y; z = z }; speed = record { x = u; y = v; z = w }; ticks = t }
+piece l = pieceSaid (pos 0) (pos 32) (pos 0) (pos 0) (pos 0) l
 
 abbrev pub True : Row → Type 0
 True (told r l v) = Tells r (piece l) v
