@@ -1,35 +1,54 @@
 -- Numbers put into a lent list from its begin. Assumes nothing.
-use mathlib.Core.Path.{_≡_, refl}
-use mathlib.Core.List.{List, _++_}
-use Prim.Native.Nat.{ℕ, _≤_, _<_}
-use native.Mathlib.Nat.{zero-add}
+use mathlib.Core.Path.{_≡_, refl, sym, ap, _∙_}
+use mathlib.Core.Logic.{⊎-elim}
+use mathlib.Core.List.{List, _++_, append-assoc, append-nil}
+use Prim.Native.Nat.{ℕ, _-_, _≤_, _<_}
 use native.Mathlib.Omega.{arith}
 use lib.IntN.{ℤ}
-use lib.ListN.{length, drop, length-append}
-use lib.Seq.{paste, take-length, drop-append-add, drop-drop, take-at}
+use lib.ListN.{length, take, drop, length-append, drop-of-length-le}
+use lib.Seq.{take-all, drop-drop, take-at, drop-at}
 use borrow.Author.Tests.{le-leb, lt-leb}
+use Rattle.whole.specs.Front.{fronted}
+use Rattle.whole.proofs.Order.{ℕ-or}
 use Rattle.rules.specs.Refusal.{refuse}
+use Rattle.rules.proofs.Checks.{sharp-demand}
+use Rattle.refusal.specs.Said.{Writes}
+use Rattle.refusal.proofs.Unique.{written}
 use Rattle.refusal.specs.declared.Checked.{Checked}
 use Rattle.refusal.specs.declared.Checked.the-variants.{Good, Refused}
 use Rattle.block.specs.declared.PieceRead.{PieceRead}
 use Rattle.block.specs.Reading.{PieceFound, PieceSays}
 use Rattle.block.proofs.PieceLaws.{held-few, held-long}
+use Rattle.intake.specs.Footprint.{putChecks}
+use Rattle.baker.specs.Coded.{refusalCode, checkedCode}
 use Rattle.baker.specs.Listed.{out, kept, listed, Holds}
 
 module _ (least : ℕ) (before : List ℤ) (c : ℕ) (l : List ℤ) where
-  pub long : least ≤ length before → listed least before c l ≡ out c (l ++ drop (length l) before)
+  pub long : least ≤ length before → listed least before c l ≡ out c (fronted l before)
   long h = rw (le-leb least (length before) h)
 
   pub short : length before < least → listed least before c l ≡ kept before (refuse 10 0 0)
   short h = rw (lt-leb least (length before) h)
 
--- one part
-pub laid : (before l : List ℤ) → paste before 0 l (length l) ≡ l ++ drop (length l) before
-laid before l = rw (zero-add, take-length)
+-- one part, and its answer
+pub put-listed : (l before after : List ℤ) (r : Checked) (c : ℕ) → Writes (putChecks l before) (fronted l before) before after r → c ≡ checkedCode r → out c after ≡ listed (length l) before 0 l
+put-listed l before after Good c w e = (λ i. out (e i) (w .1 i)) ∙ sym (long (length l) before 0 l (w .0 .0))
+put-listed l before after (Refused x) c w e =
+    ⊎-elim (λ h. (λ i. out ((e ∙ ap refusalCode (h .1)) i) (w .1 i)) ∙ sym (short (length l) before 0 l (less (h .0)))) (λ h. absurd (h .1)) (w .0)
+  where
+    less : (length l ≤ length before → ⊥) → length before < length l
+    less h = ⊎-elim (λ (k : length l ≤ length before). absurd (h k)) (λ k. k) (ℕ-or (length l) (length before))
 
--- and another after it
-pub laid-two : (before l m : List ℤ) → paste (paste before 0 l (length l)) (length l) m (length m) ≡ (l ++ m) ++ drop (length (l ++ m)) before
-laid-two before l m = rw (zero-add, take-length l, take-at l (drop (length l) before) (length l) refl, take-length m, drop-append-add l (drop (length l) before) (length m), drop-drop (length m) (length l) before, length-append l m)
+-- a part that fits
+pub put-fits : (l before after : List ℤ) (r : Checked) → length l ≤ length before → Writes (putChecks l before) (fronted l before) before after r → after ≡ fronted l before
+put-fits l before after r h w = written (putChecks l before) (sharp-demand _ _, tt) (fronted l before) before after r w (h, tt) .1
+
+-- and another after it, put into what stands past the first
+pub laid-two : (before l m : List ℤ) → let first = fronted l before in let n = length first - length l in take (length l) first ++ (fronted m (take n (drop (length l) first)) ++ drop n (drop (length l) first)) ≡ fronted (l ++ m) before
+laid-two before l m =
+    let first = fronted l before in let rest = drop (length l) before in
+    let k : length rest ≤ length first - length l = omega (arith, length-append l rest) in
+    rw (take-at l rest (length l) refl, drop-at l rest (length l) refl, take-all (length first - length l) rest k, drop-of-length-le rest k, append-nil, append-assoc l m, drop-drop (length m) (length l) before, length-append l m)
 
 -- ---- a piece that was read holds its corners
 read-found : (l : List ℕ) (r : PieceRead) (x : Checked) → PieceFound l r x → Holds r

@@ -10,7 +10,7 @@ use Rattle.rules.specs.Refusal.{refuse}
 use Rattle.rules.specs.Ring.{Pt}
 use Rattle.rules.specs.Good.{runChecks, pieceChecks}
 use Rattle.rules.proofs.Checks.{AllSharp, sharp-demand}
-use Rattle.refusal.specs.Said.{Finds}
+use Rattle.refusal.specs.Said.{Finds, Writes}
 use Rattle.refusal.specs.declared.Checked.{Checked}
 use Rattle.refusal.specs.declared.Checked.the-variants.{Good, Refused}
 use Rattle.refusal.proofs.Unique.{finds-one}
@@ -21,7 +21,7 @@ use Rattle.piece.specs.Tells.{Tells}
 use Rattle.piece.proofs.Unique as piece
 use Rattle.piece.proofs.Tells.{one-told}
 use Rattle.block.specs.Layout.{headerBlock, runBlock, pieceBlock}
-use Rattle.block.specs.Reading.{headerAsked, runAsked, pieceAsked, HeaderSays, RunSays, PieceSays, Writes}
+use Rattle.block.specs.Reading.{headerAsked, runAsked, pieceAsked, HeaderSays, RunSays, PieceSays}
 use Rattle.block.proofs.Unique as block
 use Rattle.intake.specs.Number.{Answer}
 use Rattle.intake.proofs.Once.{one-answer, one-intake, sharp-intake}

@@ -1,10 +1,11 @@
 -- What a call that reads into a lent list leaves there. Assumes nothing.
 use mathlib.Core.Bool.{cond}
-use mathlib.Core.List.{List, _++_}
+use mathlib.Core.List.{List}
 use Prim.Native.Nat.{ℕ, _*_, _≤_}
 use lib.Dec.{leb}
 use lib.IntN.{ℤ}
-use lib.ListN.{length, take, drop}
+use lib.ListN.{length, take}
+use Rattle.whole.specs.Front.{fronted}
 use Rattle.rules.specs.Refusal.{Refusal, refuse}
 use Rattle.refusal.specs.Said.{said}
 use Rattle.refusal.specs.declared.Checked.{Checked}
@@ -35,7 +36,7 @@ kept before s = out (refusalCode s) before
 
 -- numbers before what stands past them; a list that is shorter than it must be is refused with 10
 abbrev pub listed : ℕ → List ℤ → ℕ → List ℤ → Out
-listed least before c l = cond (leb least (length before)) (out c (l ++ drop (length l) before)) (kept before (refuse 10 0 0))
+listed least before c l = cond (leb least (length before)) (out c (fronted l before)) (kept before (refuse 10 0 0))
 
 -- x, y, z, the velocity and T
 abbrev pub runListed : List ℤ → RunRead → Out

@@ -2,14 +2,15 @@
 use crate::code::checked;
 use crate::code::header;
 use crate::code::refusal;
+use crate::given::band_of;
+use crate::given::run_of;
 use crate::list::put_piece;
 use crate::list::put_run;
 use block::RunRead;
-use piece::Band;
-use piece::Run;
 ghost use Rattle.rules.specs.Reach.{run, piece};
 ghost use Rattle.block.specs.Layout.{headerBlock, runBlock, pieceBlock};
-ghost use Rattle.block.specs.Reading.{headerAsked, runAsked, pieceAsked, HeaderSays, RunSays, PieceSays, Writes};
+ghost use Rattle.refusal.specs.Said.{Writes};
+ghost use Rattle.block.specs.Reading.{headerAsked, runAsked, pieceAsked, HeaderSays, RunSays, PieceSays};
 ghost use Rattle.baker.specs.Coded.{Coded, checkedCode, headerCode};
 ghost use Rattle.baker.specs.Listed.{out, runListed, pieceListed};
 
@@ -40,15 +41,7 @@ pub extern "C" fn baker_write_run(
 ) -> u64
     ensures { λ r. ⌜ Coded (Writes (runAsked (now (block .entry)) (run x y z vx vy vz ticks)) (runBlock (run x y z vx vy vz ticks)) (now (block .entry)) (now (block .exit))) checkedCode r ⌝ }
 {
-    let run = Run {
-        x,
-        y,
-        z,
-        vx,
-        vy,
-        vz,
-        ticks,
-    };
+    let run = run_of(x, y, z, vx, vy, vz, ticks);
     checked(block::write_run(run, block))
 }
 
@@ -74,13 +67,7 @@ pub extern "C" fn baker_write_piece(
 ) -> u64
     ensures { λ r. ⌜ Coded (Writes (pieceAsked (now (block .entry)) (piece bottom top vx vy vz (now (corners .entry)))) (pieceBlock (piece bottom top vx vy vz (now (corners .entry)))) (now (block .entry)) (now (block .exit))) checkedCode r ⌝ }
 {
-    let band = Band {
-        bottom,
-        top,
-        vx,
-        vy,
-        vz,
-    };
+    let band = band_of(bottom, top, vx, vy, vz);
     checked(block::write_piece(band, corners, block))
 }
 

@@ -5,6 +5,7 @@ use piece::Placed;
 use piece::Verdict;
 use refusal::Checked;
 use refusal::Refusal;
+use refusal::row_of;
 use room::Counted;
 ghost use mathlib.Core.Path.{_≡_};
 ghost use Rattle.refusal.specs.Said.{said};
@@ -19,35 +20,12 @@ fn packed(number: u64, block: u64, a: u64, b: u64) -> u64
     middle + a % 0x1_0000 * 0x1_0000 + b % 0x1_0000
 }
 
-// A refusal's number, and its two places.
-struct Fields(usize, usize, usize);
-
-fn fields_of(x: Refusal) -> Fields
-    ensures { λ r. ⌜ (r .0 ≡ said x .number) × (r .1 ≡ said x .a) × (r .2 ≡ said x .b) ⌝ }
-{
-    match x {
-        Refusal::Length => Fields(1, 0, 0),
-        Refusal::Check => Fields(2, 0, 0),
-        Refusal::Kind(a) => Fields(3, a, 0),
-        Refusal::Reach(a) => Fields(4, a, 0),
-        Refusal::Corners => Fields(5, 0, 0),
-        Refusal::Same(a) => Fields(6, a, 0),
-        Refusal::Fold(a) => Fields(7, a, 0),
-        Refusal::Meet(a, b) => Fields(8, a, b),
-        Refusal::Clockwise => Fields(9, 0, 0),
-        Refusal::Short => Fields(10, 0, 0),
-        Refusal::NotNumber(a, b) => Fields(11, a, b),
-        Refusal::Beyond(a, b) => Fields(12, a, b),
-        Refusal::OffGrid(a, b) => Fields(13, a, b),
-    }
-}
-
 // A refusal in a block of a room.
 pub(crate) fn refusal_in(x: Refusal, block: usize) -> u64
     ensures { λ r. ⌜ r ≡ refusalCode (saidIn x block) ⌝ }
 {
-    let s = fields_of(x);
-    packed(s.0 as u64, block as u64, s.1 as u64, s.2 as u64)
+    let row = row_of(x);
+    packed(row.0 as u64, block as u64, row.1 as u64, row.2 as u64)
 }
 
 // Elsewhere its block is 0.

@@ -2,6 +2,7 @@
 mod blocks;
 mod code;
 mod export;
+mod given;
 mod list;
 mod numbers;
 mod rooms;

@@ -2,8 +2,8 @@
 use crate::code::checked;
 use crate::code::placed;
 use crate::code::verdict;
-use piece::Band;
-use piece::Run;
+use crate::given::band_of;
+use crate::given::run_of;
 ghost use Rattle.rules.specs.Reach.{run, piece};
 ghost use Rattle.rules.specs.Good.{runChecks, pieceChecks};
 ghost use Rattle.refusal.specs.Said.{Finds};
@@ -23,15 +23,7 @@ pub extern "C" fn baker_check_run(
 ) -> u64
     ensures { λ r. ⌜ Coded (Finds (runChecks (run x y z vx vy vz ticks))) checkedCode r ⌝ }
 {
-    let run = Run {
-        x,
-        y,
-        z,
-        vx,
-        vy,
-        vz,
-        ticks,
-    };
+    let run = run_of(x, y, z, vx, vy, vz, ticks);
     checked(piece::check_run(run))
 }
 
@@ -46,13 +38,7 @@ pub extern "C" fn baker_check_piece(
 ) -> u64
     ensures { λ r. ⌜ Coded (Finds (pieceChecks (piece bottom top vx vy vz (now (corners .entry))))) checkedCode r ⌝ }
 {
-    let band = Band {
-        bottom,
-        top,
-        vx,
-        vy,
-        vz,
-    };
+    let band = band_of(bottom, top, vx, vy, vz);
     checked(piece::check_piece(band, corners))
 }
 
@@ -81,21 +67,7 @@ pub extern "C" fn baker_verdict(
 ) -> u64
     ensures { λ r. ⌜ Coded (Tells (run x y z vx vy vz ticks) (piece bottom top ux uy uz (now (corners .entry)))) verdictCode r ⌝ }
 {
-    let run = Run {
-        x,
-        y,
-        z,
-        vx,
-        vy,
-        vz,
-        ticks,
-    };
-    let band = Band {
-        bottom,
-        top,
-        vx: ux,
-        vy: uy,
-        vz: uz,
-    };
+    let run = run_of(x, y, z, vx, vy, vz, ticks);
+    let band = band_of(bottom, top, ux, uy, uz);
     verdict(piece::verdict(run, band, corners))
 }

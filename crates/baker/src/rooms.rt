@@ -2,10 +2,10 @@
 use crate::code::asked;
 use crate::code::counted;
 use crate::code::refusal_in;
+use crate::given::band_of;
+use crate::given::run_of;
 use crate::list::put_piece;
 use block::PieceRead;
-use piece::Band;
-use piece::Run;
 use refusal::Checked;
 use room::Found;
 ghost use Rattle.rules.specs.Reach.{run, piece};
@@ -52,15 +52,7 @@ pub extern "C" fn baker_room_verdicts(
 ) -> u64
     ensures { λ r. ⌜ Coded (VerdictsSay (run x y z vx vy vz ticks) (now (image .entry)) (now (list .entry)) (now (list .exit))) countedCode r ⌝ }
 {
-    let run = Run {
-        x,
-        y,
-        z,
-        vx,
-        vy,
-        vz,
-        ticks,
-    };
+    let run = run_of(x, y, z, vx, vy, vz, ticks);
     counted(room::verdicts(run, image, list))
 }
 
@@ -83,21 +75,7 @@ pub extern "C" fn baker_ask(
 ) -> u64
     ensures { λ r. ⌜ Coded (AskSays (now (book .entry)) (now (book .exit)) (run x y z vx vy vz ticks) (piece bottom top ux uy uz (now (corners .entry)))) askedCode r ⌝ }
 {
-    let run = Run {
-        x,
-        y,
-        z,
-        vx,
-        vy,
-        vz,
-        ticks,
-    };
-    let band = Band {
-        bottom,
-        top,
-        vx: ux,
-        vy: uy,
-        vz: uz,
-    };
+    let run = run_of(x, y, z, vx, vy, vz, ticks);
+    let band = band_of(bottom, top, ux, uy, uz);
     asked(book::ask(book, run, band, corners))
 }

@@ -1,13 +1,14 @@
 -- What checks in a row find, and what a call's answer says of them. Assumes nothing.
-use mathlib.Core.Path.{_≡_, subst}
+use mathlib.Core.Path.{_≡_, sym, subst}
 use mathlib.Core.Logic.{⊎-elim}
 use mathlib.Core.List.{List, [], _∷_, _++_}
+use Prim.Native.Nat.{ℕ}
 use Rattle.rules.specs.Refusal as rules
 use Rattle.rules.specs.Refusal.{Check as Test, Passes, Fault}
 use Rattle.rules.proofs.Checks.{Sharp, AllSharp, never-both, one-fault, passes-append, fault-right}
 use Rattle.refusal.specs.Said.{said, Finds}
-use Rattle.refusal.proofs.Unique.{said-one}
-use Rattle.block.specs.Reading.{inside}
+use Rattle.block.specs.Reading.{bytesOf, inside}
+use Rattle.block.specs.declared.kind.Kind.{Kind}
 use Rattle.refusal.specs.declared.Refusal.{Refusal}
 use Rattle.refusal.specs.declared.Checked.{Checked}
 use Rattle.refusal.specs.declared.Checked.the-variants.{Good, Refused}
@@ -21,15 +22,16 @@ pub fault-past : (cs ds : List Test) → AllSharp cs → (x : rules.Refusal) →
 fault-past [] ds a x p f = f
 fault-past (c ∷ cs) ds a x p f = ⊎-elim (λ h. absurd (a .0 .never x (p .0) h)) (λ h. fault-past cs ds (a .1) x (p .1) (h .1)) f
 
-pub refused-one : (cs : List Test) → AllSharp cs → (x y : Refusal) → Fault cs (said x) → Fault cs (said y) → x ≡ y
-refused-one cs s x y f g = said-one x y (one-fault cs s (said x) (said y) f g)
-
 -- what a call found, where its answer is known
 pub found-good : (cs : List Test) (r : Checked) → Finds cs r → r ≡ Good → Passes cs
 found-good cs r f e = subst (Finds cs) e f
 
 pub found-bad : (cs : List Test) (r : Checked) (x : Refusal) → Finds cs r → r ≡ Refused x → Fault cs (said x)
 found-bad cs r x f e = subst (Finds cs) e f
+
+-- what the bytes of a kind show, where the kind is known
+pub of-kind : {k j : Kind} (l : List ℕ) (r : Checked) → k ≡ j → Finds (bytesOf j l) r → Finds (bytesOf k l) r
+of-kind l r e f = subst (λ i. Finds (bytesOf i l) r) (sym e) f
 
 -- the checks of what a block holds are sharp where it holds one thing
 pub sharp-inside : {A : Type 0} (In : A → Type 0) (cs : A → List Test) → ((a b : A) → In a → In b → a ≡ b) → ((a : A) → AllSharp (cs a)) → Sharp (inside In cs)

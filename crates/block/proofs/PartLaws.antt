@@ -6,9 +6,11 @@ use Prim.Native.Nat.{ℕ, zero, suc, _+_, _*_, _-_, _%_, _≤_, _<_}
 use native.Mathlib.Omega.{arith}
 use lib.ListN.{length, take, drop, List·getD-append, List·getD-eq-default, length-append}
 use lib.Seq.{ext-getD, length-take-le, getD-take, getD-drop, getD-append-add}
+use Rattle.whole.specs.Front.{Front}
 use Rattle.whole.proofs.Order.{ℕ-or}
 use Rattle.block.specs.Layout.{byte, sum, plainSum, weighedSum, filled, blockOf}
-use Rattle.block.specs.Scan.{Alike, Begins, SumsAt, SealedAs, Clean}
+use Rattle.block.specs.Reading.{SealedAs}
+use Rattle.block.specs.Scan.{Alike, SumsAt, Clean}
 use Rattle.block.proofs.Bytes.{filled-at, filled-length, sum-same, sum-split, plain-same, weighed-same, block-at, block-sealed, block-is}
 use Rattle.block.proofs.Mid.{mid, part-length, mid-before, mid-in, mid-after}
 
@@ -40,7 +42,7 @@ module _ (first last : List ℕ) (at : ℕ) (k : length first ≤ at) (h : at + 
   both-last j = ap (λ m. byte both (m + j)) (sym long) ∙ getD-append-add (filled at first) last j 0
 
   -- ---- the bytes, as they are laid: zeros, the first part, and the last in its place
-  module _ (z m y : List ℕ) (n : ℕ) (zl : length z ≡ 512) (zs : Clean z 0 510) (b : Begins first z m) (l : (j : ℕ) → j < length last → byte y j ≡ byte last j) where
+  module _ (z m y : List ℕ) (n : ℕ) (zl : length z ≡ 512) (zs : Clean z 0 510) (b : Front 0 first (length first) z m) (l : (j : ℕ) → j < length last → byte y j ≡ byte last j) where
     first-is : (i : ℕ) → i < 510 → byte m i ≡ byte first i
     first-is i g =
         ⊎-elim (λ (q : length first ≤ i). b .rest i q ∙ zs i (omega arith) g ∙ sym (List·getD-eq-default first 0 {n = i} q)) (λ (q : i < length first). b .first i q) (ℕ-or (length first) i)

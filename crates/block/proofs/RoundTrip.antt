@@ -20,7 +20,8 @@ use Rattle.block.specs.declared.RunRead.{RunRead}
 use Rattle.block.specs.declared.RunRead.the-variants.{Found}
 use Rattle.block.specs.declared.PieceRead.{PieceRead}
 use Rattle.block.specs.Layout.{headerBlock, runBlock, pieceBlock}
-use Rattle.block.specs.Reading.{headerAsked, runAsked, pieceAsked, HeaderSays, RunSays, PieceGood, PieceFound, PieceSays, Writes}
+use Rattle.refusal.specs.Said.{Writes}
+use Rattle.block.specs.Reading.{headerAsked, runAsked, pieceAsked, HeaderSays, RunSays, PieceGood, PieceFound, PieceSays}
 use Rattle.block.proofs.PieceLaws.{sized-length, good-sized}
 use Rattle.block.proofs.Unique.{write-header-one, write-run-one, write-piece-one, read-header-one, read-run-one, read-piece-one}
 

@@ -10,7 +10,8 @@ use Rattle.rules.specs.Refusal.{Check, Passes, Fault}
 use Rattle.rules.specs.Good.{runChecks, pieceChecks}
 use Rattle.rules.specs.Verdict.{Answer, clear, blocked, Verdict, verdictChecks}
 use Rattle.rules.proofs.Checks.{AllSharp, never-both, passes-append}
-use Rattle.refusal.specs.Said.{said}
+use Rattle.refusal.specs.Said.{said, Writes}
+use Rattle.refusal.proofs.Unique.{refused-one, writes-one}
 use Rattle.refusal.specs.declared.Refusal.{Refusal}
 use Rattle.refusal.specs.declared.Checked.{Checked}
 use Rattle.refusal.specs.declared.Checked.the-variants.{Good, Refused}
@@ -26,21 +27,14 @@ use Rattle.block.specs.declared.RunRead.{RunRead}
 use Rattle.block.specs.declared.RunRead.the-variants.{Found, NoRun}
 use Rattle.block.specs.declared.PieceRead.{PieceRead}
 use Rattle.block.specs.Layout.{words, headerBlock, runBlock, pieceBlock, blockOf, filled}
-use Rattle.block.specs.Reading.{headerChecks, runBlockChecks, pieceBlockChecks, headerAsked, partsAsked, PartsIn, wordsAsked, runAsked, pieceAsked, HeaderSays, RunIn, RunSays, Holds, PieceFound, PieceSays, Writes}
+use Rattle.block.specs.Reading.{headerChecks, runBlockChecks, pieceBlockChecks, headerAsked, partsAsked, PartsIn, wordsAsked, runAsked, pieceAsked, HeaderSays, RunIn, RunSays, Holds, PieceFound, PieceSays}
 use Rattle.block.specs.Verdicts.{VerdictOn, verdictInChecks, VerdictInSays}
-use Rattle.block.proofs.Found.{refused-one}
 use Rattle.block.proofs.Headers.{header-passes, header-one}
 use Rattle.block.proofs.RunLaws as runs
 use Rattle.block.proofs.PieceLaws as pieces
 use Rattle.block.proofs.Sharp.{sharp-header, sharp-run-block, sharp-piece-block, sharp-verdict-in, sharp-parts-asked, sharp-words-asked, sharp-header-asked, sharp-run-asked, sharp-piece-asked}
 
 -- ---- writers
-writes-one : (cs : List Check) → AllSharp cs → (made before a b : List ℕ) (r s : Checked) → Writes cs made before a r → Writes cs made before b s → (r ≡ s) × (a ≡ b)
-writes-one cs h made before a b Good Good f g = (refl, f .1 ∙ sym (g .1))
-writes-one cs h made before a b Good (Refused y) f g = absurd (never-both cs h (said y) (f .0) (g .0))
-writes-one cs h made before a b (Refused x) Good f g = absurd (never-both cs h (said x) (g .0) (f .0))
-writes-one cs h made before a b (Refused x) (Refused y) f g = (ap Refused (refused-one cs h x y (f .0) (g .0)), f .1 ∙ sym (g .1))
-
 pub write-parts-one : (first last : List ℕ) (at : ℕ) (before a b : List ℕ) (r s : Checked) → Writes (partsAsked before first last at) (blockOf (filled at first ++ last)) before a r → Writes (partsAsked before first last at) (blockOf (filled at first ++ last)) before b s → (r ≡ s) × (a ≡ b)
 write-parts-one first last at before a b r s = writes-one (partsAsked before first last at) (sharp-parts-asked before first last at) (blockOf (filled at first ++ last)) before a b r s
 

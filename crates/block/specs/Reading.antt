@@ -12,6 +12,8 @@ use Rattle.refusal.specs.Said.{said}
 use Rattle.refusal.specs.declared.Checked.{Checked}
 use Rattle.refusal.specs.declared.Checked.the-variants.{Good, Refused}
 use Rattle.piece.specs.Numbers.{runOf, pieceOf}
+use Rattle.block.specs.declared.kind.Kind.{Kind}
+use Rattle.block.specs.declared.kind.Kind.the-variants as kind
 use Rattle.block.specs.declared.HeaderRead.{HeaderRead}
 use Rattle.block.specs.declared.HeaderRead.the-variants.{Count, NoHeader}
 use Rattle.block.specs.declared.RunRead.{RunRead}
@@ -24,10 +26,14 @@ use Rattle.block.specs.Layout.{byte, plainSum, weighedSum, name, headerB
 abbrev pub lengthCheck : List ℕ → Check
 lengthCheck l = demand (length l ≡ 512) (refuse 1 0 0)
 
--- bytes 510 and 511 are the check
-pub record Sealed (l : List ℕ) : Type 0 where
-  pub first : byte l 510 ≡ plainSum l
-  pub second : byte l 511 ≡ weighedSum l
+-- bytes 510 and 511 of a block are the check of these bytes
+pub record SealedAs (l block : List ℕ) : Type 0 where
+  pub first : byte block 510 ≡ plainSum l
+  pub second : byte block 511 ≡ weighedSum l
+
+-- a block is sealed by its own
+abbrev pub Sealed : List ℕ → Type 0
+Sealed l = SealedAs l l
 
 abbrev pub sealCheck : List ℕ → Check
 sealCheck l = demand (Sealed l) (refuse 2 0 0)
@@ -67,6 +73,11 @@ pieceBytes l =
     ∷ demand (Corners (byte l 1)) (refuse 5 0 0)
     ∷ unnamedCheck l (12 + 4 * byte l 1)
     ∷ []
+
+abbrev pub bytesOf : Kind → List ℕ → List Check
+bytesOf kind.Header l = headerBytes l
+bytesOf kind.Run l = runBytes l
+bytesOf kind.Piece l = pieceBytes l
 
 -- ---- the numbers that a block holds
 -- what two bytes hold, signed
@@ -138,11 +149,7 @@ PieceFound l r (Refused x) = PieceRefused l (said x) r
 abbrev pub PieceSays : List ℕ → PieceRead → Type 0
 PieceSays l r = PieceFound l r (r .found)
 
--- writing what the checks pass makes the block; otherwise the first fault is answered and every byte is as it was
-abbrev pub Writes : List Check → List ℕ → List ℕ → List ℕ → Checked → Type 0
-Writes cs made before after Good = Passes cs × (after ≡ made)
-Writes cs made before after (Refused x) = Fault cs (said x) × (after ≡ before)
-
+-- ---- writing
 -- asked for with a count over 126: 3 at 5
 unfoldable pub headerAsked : List ℕ → ℕ → List Check
 headerAsked l n = lengthCheck l ∷ demand (Pieces n) (refuse 3 5 0) ∷ []

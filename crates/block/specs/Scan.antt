@@ -6,7 +6,7 @@ use lib.IntN.{ℤ, pos}
 use lib.ListN.{length, getD}
 use Rattle.piece.specs.declared.Run.{Run}
 use Rattle.piece.specs.declared.Band.{Band}
-use Rattle.block.specs.Layout.{byte, sum, plainSum, weighedSum, name}
+use Rattle.block.specs.Layout.{byte, sum, name}
 use Rattle.block.specs.Word.{Spelt}
 
 -- the first 510 bytes are the same
@@ -17,23 +17,12 @@ Alike l m = (i : ℕ) → i < 510 → byte l i ≡ byte m i
 abbrev pub Clean : List ℕ → ℕ → ℕ → Type 0
 Clean l from to = (i : ℕ) → from ≤ i → i < to → byte l i ≡ 0
 
--- the list begins with the front, and then it is as it was
-pub record Begins (front before after : List ℕ) : Type 0 where
-  pub size : length after ≡ length before
-  pub first : (i : ℕ) → i < length front → byte after i ≡ byte front i
-  pub rest : (i : ℕ) → length front ≤ i → byte after i ≡ byte before i
-
 -- the sums of bytes that stand in a block from byte `at` on, no remainder taken
 pub record SumsAt (l : List ℕ) (at plain weighed : ℕ) : Type 0 where
   pub plain-is : plain ≡ sum (λ i. byte l i) (length l)
   pub weighed-is : weighed ≡ sum (λ i. (510 - (at + i)) * byte l i) (length l)
   pub plain-most : plain ≤ 255 * length l
   pub weighed-most : weighed ≤ 130050 * length l
-
--- bytes 510 and 511 of a block are the check of these bytes
-pub record SealedAs (l block : List ℕ) : Type 0 where
-  pub first : byte block 510 ≡ plainSum l
-  pub second : byte block 511 ≡ weighedSum l
 
 -- r is the first byte at or after `from` that is not zero, or 510
 pub record FirstByte (l : List ℕ) (from r : ℕ) : Type 0 where

@@ -10,15 +10,16 @@ ghost use mathlib.Core.Path.{_≡_};
 ghost use Prim.Native.Nat.{ℕ, suc, _+_, _*_, _/_, _%_, _≤_, _<_};
 ghost use lib.IntN.{pos};
 ghost use lib.ListN.{length, getD, set, take};
+ghost use Rattle.whole.specs.Front.{Front};
 ghost use Rattle.block.specs.Layout.{byte, word, words, blockOf};
 ghost use Rattle.piece.specs.Decide.{Seeks};
-ghost use Rattle.block.specs.Reading.{Writes, Word, Wide, wordsAsked};
-ghost use Rattle.block.specs.Scan.{Begins};
+ghost use Rattle.refusal.specs.Said.{Writes};
+ghost use Rattle.block.specs.Reading.{Word, Wide, wordsAsked};
 
 // The bytes from the begin of a list on.
 pub(crate) fn copy(front: &[u8], block: &mut [u8])
     requires { ⌜ length (now front) ≤ length (now block) ⌝ }
-    ensures { λ _. ⌜ Begins (now (front .entry)) (now (block .entry)) (now (block .exit)) ⌝ }
+    ensures { λ _. ⌜ Front 0 (now (front .entry)) (length (now (front .entry))) (now (block .entry)) (now (block .exit)) ⌝ }
 {
     let mut i = 0;
     while i < front.len() {

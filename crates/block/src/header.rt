@@ -1,16 +1,17 @@
 // The header of a room.
 use crate::HeaderRead;
 use crate::fill::put;
+use crate::kind::Kind;
+use crate::kind::check_kind;
 use crate::scan::check_unnamed;
-use crate::sums::check_block;
 use refusal::Checked;
 use refusal::Refusal;
 ghost use mathlib.Core.Path.{_≡_};
 ghost use Prim.Native.Nat.{_≤_, _<_};
 ghost use lib.ListN.{length, getD};
-ghost use Rattle.refusal.specs.Said.{Finds};
+ghost use Rattle.refusal.specs.Said.{Finds, Writes};
 ghost use Rattle.block.specs.Layout.{name, headerBlock};
-ghost use Rattle.block.specs.Reading.{headerBytes, headerChecks, headerAsked, HeaderSays, Writes};
+ghost use Rattle.block.specs.Reading.{headerBytes, headerAsked, HeaderSays};
 ghost use Rattle.block.specs.Scan.{FirstLetter, HeaderFront};
 
 // 52 4F 4F 4D
@@ -39,7 +40,7 @@ fn first_letter(block: &[u8]) -> usize
 }
 
 // The bytes of a header, by rising offset.
-fn check_header_bytes(block: &[u8]) -> Checked
+pub(crate) fn check_header_bytes(block: &[u8]) -> Checked
     requires { ⌜ length (now block) ≡ 512 ⌝ }
     ensures { λ r. ⌜ Finds (headerBytes (now (block .entry))) r ⌝ }
 {
@@ -58,19 +59,10 @@ fn check_header_bytes(block: &[u8]) -> Checked
     check_unnamed(block, 6)
 }
 
-fn check_header(block: &[u8]) -> Checked
-    ensures { λ r. ⌜ Finds (headerChecks (now (block .entry))) r ⌝ }
-{
-    match check_block(block) {
-        Checked::Refused(x) => Checked::Refused(x),
-        Checked::Good => check_header_bytes(block),
-    }
-}
-
 pub fn read_header(block: &[u8]) -> HeaderRead
     ensures { λ r. ⌜ HeaderSays (now (block .entry)) r ⌝ }
 {
-    match check_header(block) {
+    match check_kind(block, Kind::Header) {
         Checked::Refused(x) => HeaderRead::NoHeader(x),
         Checked::Good => HeaderRead::Count(block[5] as u32),
     }

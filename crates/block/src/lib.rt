@@ -2,6 +2,7 @@
 // specs/Layout.antt makes the bytes of each kind, specs/Reading.antt says what reading and writing answer, specs/Verdicts.antt what a verdict on a block answers.
 mod fill;
 mod header;
+mod kind;
 mod parts;
 mod pieces;
 mod runs;

@@ -12,8 +12,9 @@ ghost use Prim.Native.Nat.{_+_, _≤_};
 ghost use lib.ListN.{length};
 ghost use Rattle.piece.specs.Decide.{Decides};
 ghost use Rattle.block.specs.Layout.{filled, blockOf};
-ghost use Rattle.block.specs.Reading.{Writes, partsAsked, PartsIn};
-ghost use Rattle.block.specs.Scan.{Alike, SumsAt, SealedAs};
+ghost use Rattle.refusal.specs.Said.{Writes};
+ghost use Rattle.block.specs.Reading.{SealedAs, partsAsked, PartsIn};
+ghost use Rattle.block.specs.Scan.{Alike, SumsAt};
 
 // The sums of bytes that stand in a block from byte `at` on: the largest are 130,050 and 66,325,500.
 fn sums_at(bytes: &[u8], at: usize) -> Sums

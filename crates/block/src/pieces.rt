@@ -2,10 +2,11 @@
 use crate::PieceRead;
 use crate::fill::finish;
 use crate::fill::lay;
+use crate::kind::Kind;
+use crate::kind::check_kind;
 use crate::scan::band_at;
 use crate::scan::check_unnamed;
 use crate::scan::corners_at;
-use crate::sums::check_block;
 use piece::Band;
 use piece::check_piece;
 use refusal::Checked;
@@ -17,13 +18,13 @@ ghost use lib.ListN.{length, take};
 ghost use Rattle.rules.specs.Ring.{ring};
 ghost use Rattle.rules.specs.Refusal.{Passes};
 ghost use Rattle.rules.specs.Good.{pieceChecks};
-ghost use Rattle.refusal.specs.Said.{Finds};
+ghost use Rattle.refusal.specs.Said.{Finds, Writes};
 ghost use Rattle.piece.specs.Numbers.{pieceOf};
 ghost use Rattle.block.specs.Layout.{words, pieceNumbers, pieceBlock};
-ghost use Rattle.block.specs.Reading.{blockChecks, pieceBytes, pieceAsked, PieceSays, Holds, nothing, Writes};
+ghost use Rattle.block.specs.Reading.{blockChecks, pieceBytes, pieceAsked, PieceSays, Holds, nothing};
 
 // The bytes of a piece block that are no numbers: kind, corner count, unnamed bytes.
-fn check_piece_bytes(block: &[u8]) -> Checked
+pub(crate) fn check_piece_bytes(block: &[u8]) -> Checked
     requires { ⌜ length (now block) ≡ 512 ⌝ }
     ensures { λ r. ⌜ Finds (pieceBytes (now (block .entry))) r ⌝ }
 {
@@ -39,15 +40,6 @@ fn check_piece_bytes(block: &[u8]) -> Checked
         return Checked::Refused(Refusal::Corners);
     }
     check_unnamed(block, 12 + 4 * count)
-}
-
-pub(crate) fn check_piece_block(block: &[u8]) -> Checked
-    ensures { λ r. ⌜ Finds (blockChecks (now (block .entry)) ++ pieceBytes (now (block .entry))) r ⌝ }
-{
-    match check_block(block) {
-        Checked::Refused(x) => Checked::Refused(x),
-        Checked::Good => check_piece_bytes(block),
-    }
 }
 
 fn refused(x: Refusal) -> PieceRead
@@ -91,7 +83,7 @@ fn piece_in(block: &[u8]) -> PieceRead
 pub fn read_piece(block: &[u8]) -> PieceRead
     ensures { λ r. ⌜ PieceSays (now (block .entry)) r ⌝ }
 {
-    match check_piece_block(block) {
+    match check_kind(block, Kind::Piece) {
         Checked::Refused(x) => refused(x),
         Checked::Good => piece_in(block),
     }

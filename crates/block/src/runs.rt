@@ -2,25 +2,26 @@
 use crate::RunRead;
 use crate::fill::finish;
 use crate::fill::lay;
+use crate::kind::Kind;
+use crate::kind::check_kind;
 use crate::scan::check_unnamed;
 use crate::scan::run_at;
-use crate::sums::check_block;
 use piece::Run;
 use piece::check_run;
 use refusal::Checked;
 use refusal::Refusal;
 ghost use mathlib.Core.Path.{_≡_};
-ghost use mathlib.Core.List.{_∷_, _++_};
+ghost use mathlib.Core.List.{_∷_};
 ghost use lib.ListN.{length, take};
 ghost use Rattle.rules.specs.Refusal.{Passes};
 ghost use Rattle.rules.specs.Good.{runChecks};
-ghost use Rattle.refusal.specs.Said.{Finds};
+ghost use Rattle.refusal.specs.Said.{Finds, Writes};
 ghost use Rattle.piece.specs.Numbers.{runOf};
 ghost use Rattle.block.specs.Layout.{runBody, runBlock};
-ghost use Rattle.block.specs.Reading.{blockChecks, runBytes, runAsked, RunSays, Writes};
+ghost use Rattle.block.specs.Reading.{runBytes, runAsked, RunSays};
 
 // The bytes of a run block that are no numbers, by rising offset.
-fn check_run_bytes(block: &[u8]) -> Checked
+pub(crate) fn check_run_bytes(block: &[u8]) -> Checked
     requires { ⌜ length (now block) ≡ 512 ⌝ }
     ensures { λ r. ⌜ Finds (runBytes (now (block .entry))) r ⌝ }
 {
@@ -35,19 +36,10 @@ fn check_run_bytes(block: &[u8]) -> Checked
     check_unnamed(block, 16)
 }
 
-fn check_run_block(block: &[u8]) -> Checked
-    ensures { λ r. ⌜ Finds (blockChecks (now (block .entry)) ++ runBytes (now (block .entry))) r ⌝ }
-{
-    match check_block(block) {
-        Checked::Refused(x) => Checked::Refused(x),
-        Checked::Good => check_run_bytes(block),
-    }
-}
-
 pub fn read_run(block: &[u8]) -> RunRead
     ensures { λ r. ⌜ RunSays (now (block .entry)) r ⌝ }
 {
-    match check_run_block(block) {
+    match check_kind(block, Kind::Run) {
         Checked::Refused(x) => RunRead::NoRun(x),
         Checked::Good => {
             let run = run_at(block);

@@ -1,5 +1,6 @@
 // The verdict of a run on the piece in a block, whose numbers are checked once.
-use crate::pieces::check_piece_block;
+use crate::kind::Kind;
+use crate::kind::check_kind;
 use crate::scan::band_at;
 use crate::scan::corners_at;
 use piece::Run;
@@ -31,7 +32,7 @@ pub fn verdict_in(run: Run, block: &[u8]) -> Verdict
     if let Checked::Refused(x) = check_run(run) {
         return Verdict::Refused(x);
     }
-    match check_piece_block(block) {
+    match check_kind(block, Kind::Piece) {
         Checked::Refused(x) => Verdict::Refused(x),
         Checked::Good => judge(run, block),
     }

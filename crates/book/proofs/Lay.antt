@@ -13,14 +13,13 @@ use Rattle.rules.specs.Ring.{ring}
 use Rattle.rules.specs.Refusal.{Check, Passes, Fault}
 use Rattle.rules.specs.Good.{PieceKnown, pieceChecks}
 use Rattle.rules.proofs.Checks.{AllSharp, never-both}
-use Rattle.refusal.specs.Said.{said}
+use Rattle.refusal.specs.Said.{said, Writes}
 use Rattle.refusal.specs.declared.Refusal as told
 use Rattle.refusal.specs.declared.Checked.{Checked}
 use Rattle.refusal.specs.declared.Checked.the-variants.{Good, Refused}
 use Rattle.piece.specs.declared.Band.{Band}
 use Rattle.piece.specs.Numbers.{pieceOf}
 use Rattle.block.specs.Layout.{byte, sum, words, filled, runBody, pieceNumbers, pieceBody}
-use Rattle.block.specs.Reading.{Writes}
 use Rattle.block.proofs.Bytes.{sum-same}
 use Rattle.block.proofs.Bodies.{run-body-length}
 use Rattle.block.proofs.Mid.{mid, mid-length, mid-front}
@@ -37,10 +36,6 @@ module _ (cs : List Check) (sharp : AllSharp cs) (made before after : List ℕ) 
 
   pub refused : (x : told.Refusal) → r ≡ Refused x → Passes cs → ⊥
   refused x e p = never-both cs sharp (said x) p ((subst (Writes cs made before after) e w) .0)
-
-pub written : (cs : List Check) → AllSharp cs → (made before after : List ℕ) (r : Checked) → Writes cs made before after r → Passes cs → after ≡ made
-written cs sharp made before after Good w p = w .1
-written cs sharp made before after (Refused x) w p = absurd (never-both cs sharp (said x) p (w .0))
 
 -- ---- zeros that bytes take the place of
 abbrev zeros : ℕ → List ℕ

@@ -6,9 +6,11 @@ use Prim.Native.Nat.{ℕ, zero, suc, _+_, _*_, _-_, _≤_, _<_}
 use native.Mathlib.Omega.{arith}
 use native.Mathlib.Nat.{add-suc, add-zero}
 use lib.IntN.{ℤ, pos}
-use lib.ListN.{length, getD, set, length-set}
-use lib.Seq.{getD-set-same, getD-set-other}
+use lib.ListN.{length, getD, set, take, length-set}
+use lib.Seq.{getD-set-same, getD-set-other, getD-take, length-take-le}
 use borrow.Author.Count.{below-more}
+use Rattle.whole.specs.Front.{Front, fronted}
+use Rattle.whole.proofs.Front.{front-made}
 use Rattle.rules.specs.Reach.{Corners}
 use Rattle.rules.specs.Refusal as rules
 use Rattle.rules.specs.Refusal.{Passes, Fault}
@@ -20,7 +22,7 @@ use Rattle.refusal.specs.declared.Checked.the-variants.{Good, Refused}
 use Rattle.intake.specs.declared.Taken.the-variants.{Grid}
 use Rattle.intake.specs.declared.Corner.{Corner}
 use Rattle.intake.specs.Number.{Answer}
-use Rattle.intake.specs.Footprint.{cornerChecks, cornerAt, cornersChecks, intakeChecks, Holds, Filled}
+use Rattle.intake.specs.Footprint.{cornerChecks, cornerAt, cornersChecks, intakeChecks, Holds, Later}
 
 -- ---- one more number into a list
 module _ (l : List ℤ) (j : ℕ) (v : ℤ) where
@@ -29,19 +31,6 @@ module _ (l : List ℤ) (j : ℕ) (v : ℤ) where
 
   off-set : (k : ℕ) → (k ≡ j → ⊥) → getD (set l j v) k (pos 0) ≡ getD l k (pos 0)
   off-set k n = getD-set-other l j k v (pos 0) n
-
-pub put-none : (l list : List ℤ) → Filled l 0 list list
-put-none l list = record { same = λ k h. absurd (omega arith); stays = record { long = refl; past = λ k h. refl } }
-
-pub put-more : (l : List ℤ) (j : ℕ) (before list : List ℤ) (v : ℤ) → v ≡ getD l j (pos 0) → j < length list → Filled l j before list → Filled l (j + 1) before (set list j v)
-put-more l j before list v e h f =
-    record {
-      same = below-more (λ k. getD (set list j v) k (pos 0) ≡ getD l k (pos 0)) j (λ k lt. off-set list j v k (omega arith) ∙ f .same k lt) (at-set list j v h ∙ e);
-      stays = record {
-        long = length-set list j v ∙ f .stays .long;
-        past = λ k le. off-set list j v k (omega arith) ∙ f .stays .past k (omega arith);
-      };
-    }
 
 -- ---- one more corner into a list
 module _ (cs : List Corner) (i : ℕ) (l : List ℤ) (x y : ℤ) where
@@ -103,9 +92,27 @@ module _ (cs : List Corner) (n size : ℕ) where
   all-good c l h k = (c, (l, holds-pass cs n h k))
 
 -- what was gathered, put into a list
-pub holds-put : (cs : List Corner) (n : ℕ) (l before later : List ℤ) → Holds cs n l → Filled l (2 * n) before later → Holds cs n later
-holds-put cs n l before later h f =
+module _ (cs : List Corner) (n : ℕ) (l before : List ℤ) (all : length l ≡ 128) (few : n ≤ 64) (room : 2 * n ≤ length before) where
+  abbrev front : List ℤ
+  front = take (2 * n) l
+
+  long : length front ≡ 2 * n
+  long = length-take-le (2 * n) l (omega arith)
+
+  laid : Front (pos 0) front (length front) before (fronted front before)
+  laid = front-made (pos 0) front before (omega (arith, long))
+
+  pub put-fits : length front ≤ length before
+  put-fits = omega (arith, long)
+
+  holds-at : (k : ℕ) → k < 2 * n → getD (fronted front before) k (pos 0) ≡ getD l k (pos 0)
+  holds-at k h = laid .first k (omega (arith, long)) ∙ getD-take (2 * n) l k (pos 0) h
+
+  pub put-later : Holds cs n l → Later cs n before Good (fronted front before)
+  put-later h = (
     record {
-      x = λ i lt. subst (λ (z : ℤ). Answer (cornerAt cs i .x) (Grid z)) (sym (f .same (2 * i) (omega arith))) (h .x i lt);
-      y = λ i lt. subst (λ (z : ℤ). Answer (cornerAt cs i .y) (Grid z)) (sym (f .same (2 * i + 1) (omega arith))) (h .y i lt);
-    }
+      x = λ i lt. subst (λ (z : ℤ). Answer (cornerAt cs i .x) (Grid z)) (sym (holds-at (2 * i) (omega arith))) (h .x i lt);
+      y = λ i lt. subst (λ (z : ℤ). Answer (cornerAt cs i .y) (Grid z)) (sym (holds-at (2 * i + 1) (omega arith))) (h .y i lt);
+    },
+    record { long = laid .size; past = λ j g. laid .rest j (omega (arith, long)) },
+  )

@@ -10,6 +10,7 @@ use lib.Signed.{_≤ℤ_}
 use lib.ListN.{length, getD}
 use lib.Seq.{ext-getD}
 use lib.Ieee.{Float, nan, inf, fin}
+use Rattle.whole.specs.Front.{fronted}
 use Rattle.whole.specs.Fraction.{Frac, _≺_, _≈_}
 use Rattle.whole.proofs.Difference.{all2, ring}
 use Rattle.whole.proofs.Order.{antisym, cancel-eq, lt-le, ℕ-or}
@@ -18,17 +19,18 @@ use Rattle.rules.specs.Reach.{Corners}
 use Rattle.rules.specs.Refusal as rules
 use Rattle.rules.specs.Refusal.{refuse}
 use Rattle.rules.proofs.Checks.{Sharp, AllSharp, sharp-demand, sharp-append}
+use Rattle.refusal.specs.Said.{Writes}
 use Rattle.refusal.specs.declared.Checked.{Checked}
 use Rattle.refusal.specs.declared.Checked.the-variants.{Good, Refused}
 use Rattle.intake.specs.declared.Corner.{Corner}
 use Rattle.intake.specs.declared.Taken.{Taken}
 use Rattle.intake.specs.declared.Taken.the-variants.{Grid, OffGrid, NotNumber, Beyond}
 use Rattle.intake.specs.Number.{value, grid, Off, Export, Worth, Answer}
-use Rattle.intake.specs.Footprint.{Row, numberCheck, cornerChecks, cornerAt, cornersChecks, intakeChecks, Holds, Later, Intake}
+use Rattle.intake.specs.Footprint.{putChecks, Row, numberCheck, cornerChecks, cornerAt, cornersChecks, intakeChecks, Holds, Later, Intake}
 use Rattle.intake.proofs.Value.{≈-≼, ≈-sym}
 use Rattle.intake.proofs.Bits.{one-value}
 use Rattle.intake.proofs.Exact.{minus, export-has}
-use Rattle.refusal.proofs.Unique.{finds-one}
+use Rattle.refusal.proofs.Unique.{finds-one, writes-one}
 
 -- ---- the export of a grid number
 pub one-export : (k : ℤ) (v w : Float) → Export k v → Export k w → v ≡ w
@@ -128,3 +130,7 @@ module _ (cs : List Corner) (n : ℕ) (before l m : List ℤ) where
   one-intake r s h i =
       let e : r ≡ s = finds-one (intakeChecks cs n (length before)) (sharp-intake cs n (length before)) r s (h .finds) (i .finds) in
       (e, one-later s (subst (λ (q : Checked). Later cs n before q l) e (h .list)) (i .list))
+
+-- numbers into a lent list
+pub put-one : (numbers before a b : List ℤ) (r s : Checked) → Writes (putChecks numbers before) (fronted numbers before) before a r → Writes (putChecks numbers before) (fronted numbers before) before b s → (r ≡ s) × (a ≡ b)
+put-one numbers before = writes-one (putChecks numbers before) (sharp-demand _ _, tt) (fronted numbers before) before

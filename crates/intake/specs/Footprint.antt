@@ -68,6 +68,10 @@ pub record Intake (cs : List Corner) (n : ℕ) (before : List ℤ) (r : Checked)
   pub finds : Finds (intakeChecks cs n (length before)) r
   pub list : Later cs n before r later
 
+-- ---- numbers into a lent list, which must be as long
+abbrev pub putChecks : List ℤ → List ℤ → List Check
+putChecks numbers before = demand (length numbers ≤ length before) (refuse 10 0 0) ∷ []
+
 -- ---- the steps
 -- r is the refusal of an answer that is not taken
 abbrev pub Refuses : Taken → ℕ → ℕ → Refusal → Type 0
@@ -82,8 +86,3 @@ Paired c a (numbers.Refused r) = Fault (cornerChecks c a) (said r)
 abbrev pub Gathered : List Corner → ℕ → Checked → List ℤ → Type 0
 Gathered cs n Good l = Holds cs n l × (length l ≡ 128)
 Gathered cs n (Refused r) l = Fault (cornersChecks cs n) (said r)
-
--- the first n numbers of a list, before what another held past them
-pub record Filled (l : List ℤ) (n : ℕ) (before later : List ℤ) : Type 0 where
-  pub same : (j : ℕ) → j < n → getD later j (pos 0) ≡ getD l j (pos 0)
-  pub stays : Stays n before later

@@ -1,10 +1,11 @@
 // The intake of exported corners: binary32 numbers, of which one unit is sixteen grid units, answered one by one or taken into a lent list.
 use refusal::Checked;
 use refusal::Refusal;
-ghost use Prim.Native.Nat.{_*_, _≤_};
-ghost use lib.ListN.{length};
+ghost use Prim.Native.Nat.{_≤_};
+ghost use Rattle.whole.specs.Front.{fronted};
+ghost use Rattle.refusal.specs.Said.{Writes};
 ghost use Rattle.intake.specs.Number.{Scaled, Floored, Answer};
-ghost use Rattle.intake.specs.Footprint.{Refuses, Paired, Gathered, Filled, Intake};
+ghost use Rattle.intake.specs.Footprint.{putChecks, Refuses, Paired, Gathered, Intake};
 
 // A corner as exported.
 pub struct Corner {
@@ -121,17 +122,19 @@ fn gather(corners: [Corner; 64], count: usize) -> Found
     }
 }
 
-// The first n numbers, into the lent list.
-fn put(numbers: [i32; 128], n: usize, list: &mut [i32])
-    requires { ⌜ n ≤ 128 ⌝ }
-    requires { ⌜ n ≤ length (now list) ⌝ }
-    ensures { λ _. ⌜ Filled numbers n (now (list .entry)) (now (list .exit)) ⌝ }
+// Numbers into a lent list, from its begin on.
+pub fn put(numbers: &[i32], list: &mut [i32]) -> Checked
+    ensures { λ r. ⌜ Writes (putChecks (now (numbers .entry)) (now (list .entry))) (fronted (now (numbers .entry)) (now (list .entry))) (now (list .entry)) (now (list .exit)) r ⌝ }
 {
-    let mut j = 0usize;
-    while j < n {
+    if list.len() < numbers.len() {
+        return Checked::Refused(Refusal::Short);
+    }
+    let mut j = 0;
+    while j < numbers.len() {
         list[j] = numbers[j];
         j += 1;
     }
+    Checked::Good
 }
 
 // A footprint: `count` corners into a lent list, x then y. The list changes only where every corner is taken.
@@ -153,6 +156,5 @@ pub fn intake(corners: [Corner; 64], count: usize, list: &mut [i32]) -> Checked
         return checked;
     };
     let numbers = found.numbers;
-    put(numbers, 2 * count, list);
-    Checked::Good
+    put(&numbers[..2 * count], list)
 }

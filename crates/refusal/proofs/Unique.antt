@@ -5,11 +5,12 @@ use mathlib.Core.List.{List}
 use Prim.Native.Nat.{ℕ}
 use lib.Dec.{eqb}
 use Rattle.rules.specs.Refusal as rules
-use Rattle.rules.specs.Refusal.{Check as Test}
+use Rattle.rules.specs.Refusal.{Check as Test, Passes, Fault}
 use Rattle.rules.proofs.Checks.{AllSharp, never-both, one-fault}
-use Rattle.refusal.specs.Said.{said, Finds}
+use Rattle.refusal.specs.Said.{said, RowOf, Finds, Writes}
 use Rattle.refusal.specs.declared.Refusal.{Refusal}
 use Rattle.refusal.specs.declared.Refusal.the-variants.{Length, Check, Kind, Reach, Corners, Same, Fold, Meet, Clockwise, Short, NotNumber, Beyond, OffGrid}
+use Rattle.refusal.specs.declared.Row.{Row}
 use Rattle.refusal.specs.declared.Checked.{Checked}
 use Rattle.refusal.specs.declared.Checked.the-variants.{Good, Refused}
 
@@ -39,8 +40,26 @@ back (OffGrid a b) = refl
 pub said-one : (r s : Refusal) → said r ≡ said s → r ≡ s
 said-one r s e = sym (back r) ∙ ap (λ (q : rules.Refusal). case (q .number) (q .a) (q .b)) e ∙ back s
 
+pub refused-one : (cs : List Test) → AllSharp cs → (x y : Refusal) → Fault cs (said x) → Fault cs (said y) → x ≡ y
+refused-one cs s x y f g = said-one x y (one-fault cs s (said x) (said y) f g)
+
 pub finds-one : (cs : List Test) → AllSharp cs → (r s : Checked) → Finds cs r → Finds cs s → r ≡ s
 finds-one cs a Good Good h i = refl
 finds-one cs a Good (Refused s) h i = absurd (never-both cs a (said s) h i)
 finds-one cs a (Refused r) Good h i = absurd (never-both cs a (said r) i h)
-finds-one cs a (Refused r) (Refused s) h i = ap Refused (said-one r s (one-fault cs a (said r) (said s) h i))
+finds-one cs a (Refused r) (Refused s) h i = ap Refused (refused-one cs a r s h i)
+
+-- what was written is one too
+pub writes-one : {A : Type 0} (cs : List Test) → AllSharp cs → (made before a b : A) (r s : Checked) → Writes cs made before a r → Writes cs made before b s → (r ≡ s) × (a ≡ b)
+writes-one cs h made before a b Good Good f g = (refl, f .1 ∙ sym (g .1))
+writes-one cs h made before a b Good (Refused y) f g = absurd (never-both cs h (said y) (f .0) (g .0))
+writes-one cs h made before a b (Refused x) Good f g = absurd (never-both cs h (said x) (g .0) (f .0))
+writes-one cs h made before a b (Refused x) (Refused y) f g = (ap Refused (refused-one cs h x y (f .0) (g .0)), f .1 ∙ sym (g .1))
+
+-- what passes is written
+pub written : {A : Type 0} (cs : List Test) → AllSharp cs → (made before after : A) (r : Checked) → Writes cs made before after r → Passes cs → (r ≡ Good) × (after ≡ made)
+written cs h made before after Good w p = (refl, w .1)
+written cs h made before after (Refused x) w p = absurd (never-both cs h (said x) p (w .0))
+
+pub row-one : (x : Refusal) (r s : Row) → RowOf x r → RowOf x s → r ≡ s
+row-one x r s h k = λ i. record { 0 = (h .0 ∙ sym (k .0)) i; 1 = (h .1 ∙ sym (k .1)) i; 2 = (h .2 ∙ sym (k .2)) i }

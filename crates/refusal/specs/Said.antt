@@ -1,9 +1,11 @@
 -- What each case of the enum says: the number and the places of the table. Assumes nothing.
+use mathlib.Core.Path.{_≡_}
 use mathlib.Core.List.{List}
 use Rattle.rules.specs.Refusal as rules
 use Rattle.rules.specs.Refusal.{refuse, Check as Test, Passes, Fault}
 use Rattle.refusal.specs.declared.Refusal.{Refusal}
 use Rattle.refusal.specs.declared.Refusal.the-variants.{Length, Check, Kind, Reach, Corners, Same, Fold, Meet, Clockwise, Short, NotNumber, Beyond, OffGrid}
+use Rattle.refusal.specs.declared.Row.{Row}
 use Rattle.refusal.specs.declared.Checked.{Checked}
 use Rattle.refusal.specs.declared.Checked.the-variants.{Good, Refused}
 
@@ -22,7 +24,16 @@ said (NotNumber a b) = refuse 11 a b
 said (Beyond a b) = refuse 12 a b
 said (OffGrid a b) = refuse 13 a b
 
+-- r is the row of x
+abbrev pub RowOf : Refusal → Row → Type 0
+RowOf x r = (r .0 ≡ said x .number) × (r .1 ≡ said x .a) × (r .2 ≡ said x .b)
+
 -- what checks find: all pass, or the first fault
 abbrev pub Finds : List Test → Checked → Type 0
 Finds cs Good = Passes cs
 Finds cs (Refused r) = Fault cs (said r)
+
+-- writing what the checks pass makes what was asked for; otherwise the first fault is answered and all is as it was
+abbrev pub Writes : {A : Type 0} → List Test → A → A → A → Checked → Type 0
+Writes cs made before after Good = Passes cs × (after ≡ made)
+Writes cs made before after (Refused r) = Fault cs (said r) × (after ≡ before)

@@ -1,13 +1,14 @@
 -- Laws of the pass over a room: a code for each piece, and the codes in the lent list. Assumes nothing.
-use mathlib.Core.Path.{_≡_, refl, _∙_}
+use mathlib.Core.Path.{_≡_, refl}
 use mathlib.Core.Logic.{inl}
 use mathlib.Core.List.{List, [], _∷_, _++_}
 use Prim.Native.Nat.{ℕ, suc, _+_, _≤_, _<_}
 use native.Mathlib.Omega.{arith}
 use native.Mathlib.Numerals.{add-one}
 use borrow.Author.Count.{below-more}
-use lib.ListN.{length, getD, set, length-set}
+use lib.ListN.{length, getD, set}
 use lib.Seq.{getD-set-same, getD-set-other}
+use Rattle.whole.specs.Front.{Front}
 use Rattle.rules.specs.Reach.{Run}
 use Rattle.rules.specs.Refusal.{refuse, Check, Passes, Fault, demand}
 use Rattle.rules.specs.Good.{runChecks}
@@ -27,12 +28,8 @@ use Rattle.block.specs.Layout.{blockAt}
 use Rattle.room.specs.Image.{count, saidIn, headChecks, piecesCheck, roomChecks}
 use Rattle.room.specs.declared.Counted.the-variants.{Refused}
 use Rattle.room.specs.Verdicts.{verdictsChecks, CodeOf, Filled, VerdictsSay}
-use Rattle.room.specs.Codes.{CodesTo, AllCoded, Stored}
+use Rattle.room.specs.Codes.{CodesTo, AllCoded}
 use Rattle.room.proofs.Images.{fault-zero, head-few}
-
--- nothing is below 0
-pub none-below : (i : ℕ) → i < 0 → ⊥
-none-below i h = omega arith
 
 -- ---- the code of a piece
 module _ (r : Run) (image : List ℕ) (i : ℕ) where
@@ -60,11 +57,8 @@ module _ (r : Run) (image : List ℕ) where
   pub codes-more : (codes : List ℕ) (i c : ℕ) → i < length codes → CodesTo r image codes i → CodeOf r image i c → CodesTo r image (set codes i c) (i + 1)
   codes-more codes i c l h new =
       below-more (λ j. CodeOf r image j (getD (set codes i c) j 0)) i
-      (λ j k. rw (getD-set-other codes i j c 0 (λ e. ne j i k e)) (h j k))
+      (λ j k. rw (getD-set-other codes i j c 0 (λ e. omega arith)) (h j k))
       (rw (getD-set-same codes i c 0 l) new)
-    where
-      ne : (j i : ℕ) → j < i → j ≡ i → ⊥
-      ne j i k e = omega arith
 
   -- every piece passes where the pieces have codes
   pub codes-pass : (codes : List ℕ) → Passes (headChecks image) → CodesTo r image codes (count image) → Passes (roomChecks image)
@@ -87,28 +81,6 @@ module _ (r : Run) (image : List ℕ) where
 pub head-fault : (image : List ℕ) (x : Refusal) (b : ℕ) → Fault (headChecks image) (saidIn x b) → Fault (roomChecks image) (saidIn x b)
 unfolding roomChecks
 head-fault image x b f = fault-left (headChecks image) (piecesCheck image ∷ []) (saidIn x b) f
-
--- ---- the lent list
-pub stored-none : (codes l : List ℕ) → Stored codes 0 l l
-stored-none codes l = record { size = refl; first = λ i h. absurd (none-below i h); rest = λ i h. refl }
-
-pub stored-more : (codes before l : List ℕ) (i : ℕ) → i < length l → Stored codes i before l → Stored codes (i + 1) before (set l i (getD codes i 0))
-stored-more codes before l i h s = record {
-  size = length-set l i (getD codes i 0) ∙ s .size;
-  first = below-more (λ j. getD (set l i (getD codes i 0)) j 0 ≡ getD codes j 0) i
-      (λ j k. getD-set-other l i j (getD codes i 0) 0 (λ e. ne j i k e) ∙ s .first j k)
-      (getD-set-same l i (getD codes i 0) 0 h);
-  rest = λ j k. getD-set-other l i j (getD codes i 0) 0 (λ e. past j i k e) ∙ s .rest j (le j i k);
-}
-  where
-    ne : (j i : ℕ) → j < i → j ≡ i → ⊥
-    ne j i k e = omega arith
-
-    past : (j i : ℕ) → i + 1 ≤ j → j ≡ i → ⊥
-    past j i k e = omega arith
-
-    le : (j i : ℕ) → i + 1 ≤ j → i ≤ j
-    le j i k = omega arith
 
 -- ---- the verdicts
 module _ (r : Run) (image : List ℕ) where
@@ -136,7 +108,7 @@ module _ (r : Run) (image : List ℕ) where
             refl,
           )
 
-      pub list-filled : (before after : List ℕ) → n ≤ length before → Stored codes n before after → Filled r image before after n
+      pub list-filled : (before after : List ℕ) → n ≤ length before → Front 0 codes n before after → Filled r image before after n
       unfolding verdictsChecks
       list-filled before after h s =
           let e = all .pieces in

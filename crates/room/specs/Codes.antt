@@ -1,8 +1,8 @@
--- What the pass over a room finds: a code for each piece, or the first refusal; and what storing codes does. Assumes nothing.
+-- What the pass over a room finds: a code for each piece, or the first refusal. Assumes nothing.
 use mathlib.Core.Path.{_≡_}
 use mathlib.Core.List.{List}
-use Prim.Native.Nat.{ℕ, suc, _≤_, _<_}
-use lib.ListN.{length, getD}
+use Prim.Native.Nat.{ℕ, suc, _<_}
+use lib.ListN.{getD}
 use Rattle.rules.specs.Reach.{Run}
 use Rattle.rules.specs.Refusal.{Passes, Fault}
 use Rattle.refusal.specs.Said.{said}
@@ -37,9 +37,3 @@ CodesFound r image codes (Refused x b) = Fault (roomChecks image) (saidIn x b)
 
 abbrev pub CodesSay : Run → List ℕ → Codes → Type 0
 CodesSay r image c = CodesFound r image (c .codes) (c .found)
-
--- the first n elements are the codes, later ones unchanged
-pub record Stored (codes : List ℕ) (n : ℕ) (before after : List ℕ) : Type 0 where
-  pub size : length after ≡ length before
-  pub first : (i : ℕ) → i < n → getD after i 0 ≡ getD codes i 0
-  pub rest : (i : ℕ) → n ≤ i → getD after i 0 ≡ getD before i 0

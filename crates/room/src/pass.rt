@@ -10,10 +10,11 @@ use refusal::Refusal;
 ghost use mathlib.Core.Path.{_≡_};
 ghost use Prim.Native.Nat.{_≤_};
 ghost use lib.ListN.{length};
+ghost use Rattle.whole.specs.Front.{Front};
 ghost use Rattle.rules.specs.Refusal.{Passes};
 ghost use Rattle.rules.specs.Good.{runChecks};
 ghost use Rattle.piece.specs.Numbers.{runOf};
-ghost use Rattle.room.specs.Codes.{CodeFound, CodesSay, Stored};
+ghost use Rattle.room.specs.Codes.{CodeFound, CodesSay};
 ghost use Rattle.room.specs.Image.{count, headChecks, Has};
 ghost use Rattle.room.specs.Verdicts.{VerdictsSay};
 
@@ -82,7 +83,7 @@ fn read_codes(run: Run, image: &[u8]) -> Codes
 
 fn store(codes: &[u32; 126], n: usize, list: &mut [u32])
     requires { ⌜ (n ≤ 126) × (n ≤ length (now list)) ⌝ }
-    ensures { λ _. ⌜ Stored (now (codes .entry)) n (now (list .entry)) (now (list .exit)) ⌝ }
+    ensures { λ _. ⌜ Front 0 (now (codes .entry)) n (now (list .entry)) (now (list .exit)) ⌝ }
 {
     let mut k = 0;
     while k < n {

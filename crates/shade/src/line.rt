@@ -3,6 +3,7 @@ use crate::text::put_field;
 use crate::text::put_number;
 use crate::text::put_word;
 use refusal::Refusal;
+use refusal::row_of;
 ghost use mathlib.Core.Path.{_≡_};
 ghost use Prim.Native.Nat.{_+_, _*_, _≤_};
 ghost use lib.ListN.{length};
@@ -14,73 +15,13 @@ ghost use Rattle.shade.specs.Put.{Puts};
 // Clear, as a verdict is coded.
 const CLEAR: u32 = 0xFFFF_FFFF;
 
-// A refusal's number, and its two places.
-fn number_of(x: Refusal) -> usize
-    ensures { λ r. ⌜ r ≡ said x .number ⌝ }
-{
-    match x {
-        Refusal::Length => 1,
-        Refusal::Check => 2,
-        Refusal::Kind(_) => 3,
-        Refusal::Reach(_) => 4,
-        Refusal::Corners => 5,
-        Refusal::Same(_) => 6,
-        Refusal::Fold(_) => 7,
-        Refusal::Meet(_, _) => 8,
-        Refusal::Clockwise => 9,
-        Refusal::Short => 10,
-        Refusal::NotNumber(_, _) => 11,
-        Refusal::Beyond(_, _) => 12,
-        Refusal::OffGrid(_, _) => 13,
-    }
-}
-
-fn first_place(x: Refusal) -> usize
-    ensures { λ r. ⌜ r ≡ said x .a ⌝ }
-{
-    match x {
-        Refusal::Length => 0,
-        Refusal::Check => 0,
-        Refusal::Kind(a) => a,
-        Refusal::Reach(a) => a,
-        Refusal::Corners => 0,
-        Refusal::Same(a) => a,
-        Refusal::Fold(a) => a,
-        Refusal::Meet(a, _) => a,
-        Refusal::Clockwise => 0,
-        Refusal::Short => 0,
-        Refusal::NotNumber(a, _) => a,
-        Refusal::Beyond(a, _) => a,
-        Refusal::OffGrid(a, _) => a,
-    }
-}
-
-fn second_place(x: Refusal) -> usize
-    ensures { λ r. ⌜ r ≡ said x .b ⌝ }
-{
-    match x {
-        Refusal::Length => 0,
-        Refusal::Check => 0,
-        Refusal::Kind(_) => 0,
-        Refusal::Reach(_) => 0,
-        Refusal::Corners => 0,
-        Refusal::Same(_) => 0,
-        Refusal::Fold(_) => 0,
-        Refusal::Meet(_, b) => b,
-        Refusal::Clockwise => 0,
-        Refusal::Short => 0,
-        Refusal::NotNumber(_, b) => b,
-        Refusal::Beyond(_, b) => b,
-        Refusal::OffGrid(_, b) => b,
-    }
-}
-
 // A refused run.
 pub(crate) fn run_line(out: &mut [u8], x: Refusal) -> usize
     requires { ⌜ 128 ≤ length (now out) ⌝ }
     ensures { λ r. ⌜ Puts (now (out .entry)) 0 (runLine (said x)) (now (out .exit)) r ⌝ }
 {
-    let next = put_field(out, 0, b"refused run ", number_of(x));
+    let row = row_of(x);
+    let next = put_field(out, 0, b"refused run ", row.0);
     put_word(out, next, b"\n")
 }
 
@@ -89,10 +30,11 @@ pub(crate) fn room_line(out: &mut [u8], x: Refusal, block: usize) -> usize
     requires { ⌜ 128 ≤ length (now out) ⌝ }
     ensures { λ r. ⌜ Puts (now (out .entry)) 0 (roomLine (saidIn x block)) (now (out .exit)) r ⌝ }
 {
-    let number = put_field(out, 0, b"refused ", number_of(x));
+    let row = row_of(x);
+    let number = put_field(out, 0, b"refused ", row.0);
     let place = put_field(out, number, b" block ", block);
-    let first = put_field(out, place, b" at ", first_place(x));
-    let second = put_field(out, first, b" ", second_place(x));
+    let first = put_field(out, place, b" at ", row.1);
+    let second = put_field(out, first, b" ", row.2);
     put_word(out, second, b"\n")
 }
 

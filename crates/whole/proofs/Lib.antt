@@ -4,3 +4,4 @@ pub mod Flag
 pub mod Polynomial
 pub mod Range
 pub mod Fraction
+pub mod Front

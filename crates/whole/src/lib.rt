@@ -1,1 +1,1 @@
-// Laws of the whole numbers and of fractions. No code: see specs/ and proofs/.
+// Laws of the whole numbers, of fractions, and of a list with a new front. No code: see specs/ and proofs/.

@@ -1,11 +1,18 @@
 -- `intake::intake` meets its contract. Assumes nothing.
 use mathlib.Core.Path.{refl, sym, subst}
+use Prim.Native.Nat.{_*_, _≤_}
 use native.Mathlib.Omega.{arith}
-use lib.ListN.{length}
+use lib.ListN.{length, take}
+use lib.Seq.{length-take-le}
+use denote.Ref.{now}
+use Rattle.whole.specs.Front.{fronted}
 use Rattle.rules.specs.Reach.{Corners}
+use Rattle.rules.proofs.Checks.{sharp-demand}
+use Rattle.refusal.proofs.Unique.{written}
 use Rattle.refusal.specs.declared.Checked.{Checked}
-use Rattle.intake.specs.Footprint.{Intake, Gathered}
-use Rattle.intake.proofs.Footprint.{beyond-count, too-short, fault-in, all-good, holds-put}
+use Rattle.refusal.specs.declared.Checked.the-variants.{Good}
+use Rattle.intake.specs.Footprint.{putChecks, Intake, Gathered}
+use Rattle.intake.proofs.Footprint.{beyond-count, too-short, fault-in, all-good, put-fits, put-later}
 use borrow.Author.Needs.{needs}
 use Rattle.intake.proofs.intake.Statement.{statement}
 use Rattle.intake.proofs.intake.Tie as tie
@@ -47,8 +54,18 @@ returns-4 c =
       list = refl;
     }
 
-mul-put : tie.Need-mul-put
-mul-put c = search needs
+mul-numbers : tie.Need-mul-numbers
+mul-numbers c = search needs
+
+-- all corners are good
+gathered : (c : tie.After-enum-told) → let g = c .before .before in let a = g .before .before .before .before .args in Gathered (a .corners) (a .count) Good (g .gather .result .numbers)
+gathered c = let g = c .before .before in let a = g .before .before .before .before .args in subst (λ (q : Checked). Gathered (a .corners) (a .count) q (g .gather .result .numbers)) (c .enum-told .given .1) (g .gather .ensures)
+
+array-share-prefix-numbers : tie.Need-array-share-prefix-numbers
+array-share-prefix-numbers c = omega (arith, gathered (c .before) .1)
+
+slice-aggregate-put : tie.Need-slice-aggregate-put
+slice-aggregate-put c = sym (length-take-le _ _ (array-share-prefix-numbers (c .before)))
 
 put-requires : tie.Need-put-requires
 put-requires c κs = search needs
@@ -58,14 +75,14 @@ same-length c = search needs
 
 returns-5 : tie.Need-returns-5
 returns-5 c =
-    let t = c .before .before .before .before in
-    let g = t .before .before in
-    let a = g .before .before .before .before .args in
-    let h = subst (λ (q : Checked). Gathered (a .corners) (a .count) q (g .gather .result .numbers)) (t .enum-told .given .1) (g .gather .ensures) in
-    let f = c .before .put .ensures in
-    record {
-      finds = all-good (a .corners) (a .count) (length (a .list .now)) (counted (g .before)) (omega arith) (g .gather .result .numbers) (h .0);
-      list = (holds-put (a .corners) (a .count) (g .gather .result .numbers) (a .list .now) _ (h .0) f, f .stays);
+    let t = c .before .before .before .before .before in let g = t .before .before in let a = g .before .before .before .before .args in let l = g .gather .result .numbers in let before = now (a .list) in
+    let n = counted (g .before) in let room : 2 * a .count ≤ length before = omega arith in
+    let h = gathered t in
+    let front = take (2 * a .count) l in
+    let w = written (putChecks front before) (sharp-demand _ _, tt) (fronted front before) before _ (c .before .put .result) (c .before .put .ensures) (put-fits (a .corners) (a .count) l before (h .1) (n .most) room, tt) in
+    rw (w .0, w .1) record {
+      finds = all-good (a .corners) (a .count) (length before) n room l (h .0);
+      list = put-later (a .corners) (a .count) l before (h .1) (n .most) room (h .0);
     }
 
 pub intake-spec : {M : Type 1} → statement M
@@ -80,7 +97,9 @@ intake-spec =
     enum-told
     enum-told-2
     returns-4
-    mul-put
+    mul-numbers
+    array-share-prefix-numbers
+    slice-aggregate-put
     put-requires
     same-length
     returns-5)

@@ -1,58 +1,66 @@
--- `intake::put` meets its contract: below j the list holds the numbers, from j on what it held. Assumes nothing.
-use mathlib.Core.Path.{_≡_, subst}
+-- `intake::put` meets its contract: the first j elements are the numbers', the rest as they were. Assumes nothing.
+use mathlib.Core.Path.{_≡_, refl, subst}
+use mathlib.Core.Logic.{inl}
 use Prim.Native.Nat.{ℕ, _-_, _≤_}
 use native.Mathlib.Omega.{arith}
 use lib.IntN.{pos}
-use lib.ListN.{getD}
+use lib.ListN.{length, getD}
+use denote.Ref.{now}
 use mir.Syntax.{w32}
+use borrow.Author.Needs.{needs}
+use Rattle.whole.specs.Front.{Front}
+use Rattle.whole.proofs.Front.{front-none, front-more, front-is}
 use Rattle.whole.proofs.Range.{field}
-use Rattle.intake.specs.Footprint.{Filled}
-use Rattle.intake.proofs.Footprint.{put-none, put-more}
 use Rattle.intake.proofs.put.Statement.{statement}
 use Rattle.intake.proofs.put.Tie as tie
 
 abbrev Inv-loop : tie.InvT-loop
-Inv-loop n list₀ numbers j₀ list j = Filled numbers j list₀ list × (j ≤ n)
+Inv-loop numbers list₀ j₀ list j = (j ≤ length numbers) × Front (pos 0) numbers j list₀ list
 
 abbrev μ-loop : tie.MeasureT-loop
-μ-loop n list₀ numbers j₀ list j = n - j
+μ-loop numbers list₀ j₀ list j = length numbers - j
+
+-- the list is too short
+returns : tie.Need-returns Inv-loop μ-loop
+returns c = (inl (λ h. omega arith, refl), refl)
 
 loop-holds : tie.Need-loop-holds Inv-loop μ-loop
-loop-holds c = (put-none (c .args .t1) (c .args .list .now), omega arith)
+loop-holds c = (omega arith, front-none (pos 0) _ _)
 
 mul-list : tie.Need-mul-list Inv-loop μ-loop
-mul-list c = omega arith
+mul-list c = search needs
 
-array-copy-out-list : tie.Need-array-copy-out-list Inv-loop μ-loop
-array-copy-out-list c = omega arith
+shared-slice-copy-out-list : tie.Need-shared-slice-copy-out-list Inv-loop μ-loop
+shared-slice-copy-out-list c = search needs
 
-mul-t11 : tie.Need-mul-t11 Inv-loop μ-loop
-mul-t11 c = omega arith
+mul-t12 : tie.Need-mul-t12 Inv-loop μ-loop
+mul-t12 c = search needs
 
 slice-set-from-list : tie.Need-slice-set-from-list Inv-loop μ-loop
-slice-set-from-list c = omega arith
+slice-set-from-list c = search needs
 
 add-j : tie.Need-add-j Inv-loop μ-loop
-add-j c = omega arith
+add-j c = search needs
 
 loop-less : tie.Need-loop-less Inv-loop μ-loop
-loop-less c = omega arith
+loop-less c = search needs
 
 loop-again : tie.Need-loop-again Inv-loop μ-loop
 loop-again c =
     let s = c .before .before in
-    let numbers = s .before .args .t1 in
+    let numbers = now (s .before .before .args .numbers) in
     let j = s .loop .j in
-    (put-more numbers j (s .before .args .list .now) (s .loop .list) _ (field w32 (getD numbers j (pos 0)) (omega (arith, c .list .given))) (omega arith) (s .loop .inv .0), omega arith)
+    (omega arith, front-more (pos 0) numbers _ (s .loop .list) j _ (field w32 (getD numbers j (pos 0)) (omega (arith, c .list .given))) (omega arith) (s .loop .inv .1))
 
 same-length : tie.Need-same-length Inv-loop μ-loop
-same-length c = c .before .loop .inv .0 .stays .long
+same-length c = c .before .loop .inv .1 .size
 
-returns : tie.Need-returns Inv-loop μ-loop
-returns c =
-    let s = c .before in
-    let e : s .loop .j ≡ s .before .args .n = omega arith in
-    subst (λ (k : ℕ). Filled (s .before .args .t1) k (s .before .args .list .now) (s .loop .list)) e (s .loop .inv .0)
+returns-2 : tie.Need-returns-2 Inv-loop μ-loop
+returns-2 c =
+    let s = c .before in let a = s .before .before .args in
+    let e : s .loop .j ≡ length (now (a .numbers)) = omega arith in
+    let fits : length (now (a .numbers)) ≤ length (now (a .list)) = omega arith in
+    ((fits, tt), front-is (pos 0) (now (a .numbers)) (now (a .list)) fits (s .loop .list) (subst (λ (n : ℕ). Front (pos 0) (now (a .numbers)) n (now (a .list)) (s .loop .list)) e (s .loop .inv .1)))
 
 pub put-spec : {M : Type 1} → statement M
 put-spec =
@@ -60,13 +68,14 @@ put-spec =
     (tie.spec
     Inv-loop
     μ-loop
+    returns
     loop-holds
     mul-list
-    array-copy-out-list
-    mul-t11
+    shared-slice-copy-out-list
+    mul-t12
     slice-set-from-list
     add-j
     loop-less
     loop-again
     same-length
-    returns)
+    returns-2)

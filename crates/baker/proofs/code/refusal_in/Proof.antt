@@ -5,8 +5,8 @@ use borrow.Author.Needs.{needs}
 use Rattle.baker.proofs.code.refusal_in.Statement.{statement}
 use Rattle.baker.proofs.code.refusal_in.Tie as tie
 
-fields-of-requires : tie.Need-fields-of-requires
-fields-of-requires c κs = search needs
+row-of-requires : tie.Need-row-of-requires
+row-of-requires c κs = search needs
 
 packed-requires : tie.Need-packed-requires
 packed-requires c κs = search needs
@@ -14,8 +14,8 @@ packed-requires c κs = search needs
 returns : tie.Need-returns
 returns c =
     let s = c .before in
-    let e = s .fields-of .ensures in
+    let e = s .row-of .ensures in
     c .packed .ensures ∙ (λ i. refusalCode (record { number = e .0 i; block = s .before .args .block; a = e .1 i; b = e .2 i }))
 
 pub refusal-in-spec : {M : Type 1} → statement M
-refusal-in-spec = tie.close (tie.spec fields-of-requires packed-requires returns)
+refusal-in-spec = tie.close (tie.spec row-of-requires packed-requires returns)

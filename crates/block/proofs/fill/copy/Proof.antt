@@ -1,48 +1,47 @@
 -- `block::fill::copy` meets its contract. The loop's invariant: the bytes passed are the front's, the rest as they were. Assumes nothing.
-use mathlib.Core.Path.{_≡_, refl, _∙_}
-use Prim.Native.Nat.{ℕ, _-_, _≤_, _<_}
-use borrow.Author.Count.{below-none}
+use mathlib.Core.Path.{_≡_, refl, subst}
+use Prim.Native.Nat.{ℕ, _-_, _≤_}
 use borrow.Author.Needs.{needs}
 use native.Mathlib.Omega.{arith}
-use lib.ListN.{length, length-set}
+use lib.ListN.{length}
 use denote.Ref.{now}
-use Rattle.block.specs.Layout.{byte}
-use Rattle.block.proofs.Bytes.{stored}
-use Rattle.block.proofs.Pairs.{elsewhere}
+use Rattle.whole.specs.Front.{Front}
+use Rattle.whole.proofs.Front.{front-none, front-more}
 use Rattle.block.proofs.fill.copy.Statement.{statement}
 use Rattle.block.proofs.fill.copy.Tie as tie
 
 abbrev Inv-loop : tie.InvT-loop
-Inv-loop front block₀ i₀ block i = (length block ≡ length block₀) × (i ≤ length front) × ((k : ℕ) → k < i → byte block k ≡ byte front k) × ((k : ℕ) → i ≤ k → byte block k ≡ byte block₀ k)
+Inv-loop front block₀ i₀ block i = (i ≤ length front) × Front 0 front i block₀ block
 
 abbrev μ-loop : tie.MeasureT-loop
 μ-loop front block₀ i₀ block i = length front - i
 
 loop-holds : tie.Need-loop-holds Inv-loop μ-loop
-loop-holds c = (refl, omega arith, below-none _, λ k h. refl)
+loop-holds c = (omega arith, front-none 0 _ _)
 
 shared-slice-read-block : tie.Need-shared-slice-read-block Inv-loop μ-loop
-shared-slice-read-block c = omega arith
+shared-slice-read-block c = search needs
 
 slice-write-block : tie.Need-slice-write-block Inv-loop μ-loop
-slice-write-block c = omega arith
+slice-write-block c = omega (arith, c .before .before .loop .inv .1 .size)
 
 add-i : tie.Need-add-i Inv-loop μ-loop
-add-i c = omega arith
+add-i c = search needs
 
 loop-less : tie.Need-loop-less Inv-loop μ-loop
-loop-less c = omega arith
+loop-less c = search needs
 
 loop-again : tie.Need-loop-again Inv-loop μ-loop
-loop-again c =
-    let v = c .before .before .loop in
-    (simp length-set (v .inv .0), omega arith, stored 0 (v .block) (c .before .before .before .args .front .now) (v .i) _ (omega arith) (v .inv .2) refl, λ k h. elsewhere (v .block) (v .i) k _ (λ e. omega arith) ∙ v .inv .3 k (omega arith))
+loop-again c = let v = c .before .before .loop in (omega arith, front-more 0 _ _ (v .block) (v .i) _ refl (omega (arith, v .inv .1 .size)) (v .inv .1))
 
 same-length : tie.Need-same-length Inv-loop μ-loop
-same-length c = omega arith
+same-length c = c .before .loop .inv .1 .size
 
 returns : tie.Need-returns Inv-loop μ-loop
-returns c = let v = c .before .loop in record { size = v .inv .0; first = λ i h. v .inv .2 i (omega arith); rest = λ i h. v .inv .3 i (omega arith) }
+returns c =
+    let s = c .before in
+    let e : s .loop .i ≡ length (now (s .before .args .front)) = omega arith in
+    subst (λ (n : ℕ). Front 0 (now (s .before .args .front)) n (now (s .before .args .block)) (s .loop .block)) e (s .loop .inv .1)
 
 pub copy-spec : {M : Type 1} → statement M
 copy-spec =

@@ -3,9 +3,10 @@ use mathlib.Core.Path.{_≡_, ap, _∙_}
 use Prim.Native.Nat.{_≤_}
 use native.Mathlib.Omega.{arith}
 use borrow.Author.Needs.{needs}
-use lib.ListN.{length, take}
-use lib.Seq.{ext-getD, getD-take, length-take-le}
+use lib.ListN.{length, take, drop}
+use lib.Seq.{take-append-seam}
 use denote.Ref.{now}
+use Rattle.whole.proofs.Front.{front-is}
 use Rattle.block.specs.Layout.{blockOf}
 use Rattle.block.proofs.fill.put.Statement.{statement}
 use Rattle.block.proofs.fill.put.Tie as tie
@@ -22,10 +23,9 @@ same-length c = search needs
 returns : tie.Need-returns
 returns c =
     let d = c .before .before .before .before .before .before .copy in let b = c .before .before .before .before .before .before .before .before .before .before in
-    let f = now (b .args .front) in let l = d .last .1 .0 in
-    let n : length f ≤ length l = omega (arith, d .ensures .size, b .pre) in
+    let f = now (b .args .front) in let l = now (b .args .block) in
     c .before .before .finish .ensures
-    ∙ ap blockOf (ext-getD 0 (take (length f) l) f (length-take-le (length f) l n) (λ i h. getD-take (length f) l i 0 (omega (arith, length-take-le (length f) l n)) ∙ d .ensures .first i (omega (arith, length-take-le (length f) l n))))
+    ∙ ap blockOf (ap (take (length f)) (front-is 0 f l (omega (arith, b .pre)) (d .last .1 .0) (d .ensures)) ∙ take-append-seam f (drop (length f) l))
 
 pub put-spec : {M : Type 1} → statement M
 put-spec = tie.close (tie.spec copy-requires finish-requires same-length returns)

@@ -9,8 +9,8 @@ use borrow.Author.Needs.{needs}
 use Rattle.block.proofs.header.read_header.Statement.{statement}
 use Rattle.block.proofs.header.read_header.Tie as tie
 
-check-header-requires : tie.Need-check-header-requires
-check-header-requires c κs = search needs
+check-kind-requires : tie.Need-check-kind-requires
+check-kind-requires c κs = search needs
 
 enum-known-x : tie.Need-enum-known-x
 enum-known-x c = search needs
@@ -19,16 +19,18 @@ enum-told : tie.Need-enum-told
 enum-told c = search needs
 
 passes : (c : tie.After-shared-slice-known2) → Passes (headerChecks (now (c .before .before .before .before .before .args .block)))
-passes c = found-good (headerChecks (now (c .before .before .before .before .before .args .block))) _ (c .before .before .before .check-header .ensures) (c .before .enum-told .given .1)
+unfolding headerChecks
+passes c = found-good (headerChecks (now (c .before .before .before .before .before .args .block))) _ (c .before .before .before .check-kind .ensures) (c .before .enum-told .given .1)
 
-shared-slice-read-t6 : tie.Need-shared-slice-read-t6
-shared-slice-read-t6 c = let e = header-length (now (c .before .before .before .before .before .args .block)) (passes c) in omega arith
+shared-slice-read-t7 : tie.Need-shared-slice-read-t7
+shared-slice-read-t7 c = let e = header-length (now (c .before .before .before .before .before .args .block)) (passes c) in omega arith
 
-cast-t7 : tie.Need-cast-t7
-cast-t7 c = omega (arith, c .shared-slice-known2 .given 5)
+cast-t8 : tie.Need-cast-t8
+cast-t8 c = omega (arith, c .shared-slice-known2 .given 5)
 
 returns : tie.Need-returns
-returns c = found-bad (headerChecks (now (c .before .before .before .before .before .args .block))) _ _ (c .before .before .before .check-header .ensures) (c .before .x .given .1)
+unfolding headerChecks
+returns c = found-bad (headerChecks (now (c .before .before .before .before .before .args .block))) _ _ (c .before .before .before .check-kind .ensures) (c .before .x .given .1)
 
 returns-2 : tie.Need-returns-2
 returns-2 c = let l = now (c .before .before .before .before .before .args .block) in (header-count l (passes c), header-is l (passes c))
@@ -37,10 +39,10 @@ pub read-header-spec : {M : Type 1} → statement M
 read-header-spec =
     tie.close
     (tie.spec
-    check-header-requires
+    check-kind-requires
     enum-known-x
     enum-told
-    shared-slice-read-t6
-    cast-t7
+    shared-slice-read-t7
+    cast-t8
     returns
     returns-2)

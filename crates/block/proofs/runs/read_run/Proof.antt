@@ -12,8 +12,8 @@ use borrow.Author.Needs.{needs}
 use Rattle.block.proofs.runs.read_run.Statement.{statement}
 use Rattle.block.proofs.runs.read_run.Tie as tie
 
-check-run-block-requires : tie.Need-check-run-block-requires
-check-run-block-requires c κs = search needs
+check-kind-requires : tie.Need-check-kind-requires
+check-kind-requires c κs = search needs
 
 enum-known-x : tie.Need-enum-known-x
 enum-known-x c = search needs
@@ -23,7 +23,7 @@ enum-told c = search needs
 
 run-at-requires : tie.Need-run-at-requires
 unfolding blockChecks
-run-at-requires c κs = let l = now (c .before .before .before .before .args .block) in passes-left (blockChecks l) (runBytes l) (found-good (blockChecks l ++ runBytes l) _ (c .before .before .check-run-block .ensures) (c .enum-told .given .1)) .0
+run-at-requires c κs = let l = now (c .before .before .before .before .args .block) in passes-left (blockChecks l) (runBytes l) (found-good (blockChecks l ++ runBytes l) _ (c .before .before .check-kind .ensures) (c .enum-told .given .1)) .0
 
 check-run-requires : tie.Need-check-run-requires
 check-run-requires c κs = search needs
@@ -39,20 +39,20 @@ unfolding runBlockChecks
 returns c =
     let l = now (c .before .before .before .before .before .args .block) in
     fault-left (blockChecks l ++ runBytes l) (inside (RunIn l) runChecks ∷ []) _
-    (found-bad (blockChecks l ++ runBytes l) _ _ (c .before .before .before .check-run-block .ensures) (c .before .x .given .1))
+    (found-bad (blockChecks l ++ runBytes l) _ _ (c .before .before .before .check-kind .ensures) (c .before .x .given .1))
 
 returns-2 : tie.Need-returns-2
 unfolding runBlockChecks
 returns-2 c =
     let l = now (c .before .before .before .before .before .before .before .before .before .args .block) in let r = c .before .before .before .before .run-at .result in
-    let p = found-good (blockChecks l ++ runBytes l) _ (c .before .before .before .before .before .before .before .check-run-block .ensures) (c .before .before .before .before .before .enum-told .given .1) in
+    let p = found-good (blockChecks l ++ runBytes l) _ (c .before .before .before .before .before .before .before .check-kind .ensures) (c .before .before .before .before .before .enum-told .given .1) in
     fault-right (blockChecks l ++ runBytes l) (inside (RunIn l) runChecks ∷ []) _ p
     (inl (runOf r, run-in l r (c .before .before .before .before .run-at .ensures) (c .before .before .before .before .before .before .before .before .shared-slice-known .given) p, found-bad (runChecks (runOf r)) _ _ (c .before .before .before .check-run .ensures) (c .before .x2 .given .1)))
 
 returns-3 : tie.Need-returns-3
 returns-3 c =
     let l = now (c .before .before .before .before .before .before .before .before .args .block) in let r = c .before .before .before .run-at .result in
-    let p = found-good (blockChecks l ++ runBytes l) _ (c .before .before .before .before .before .before .check-run-block .ensures) (c .before .before .before .before .enum-told .given .1) in (
+    let p = found-good (blockChecks l ++ runBytes l) _ (c .before .before .before .before .before .before .check-kind .ensures) (c .before .before .before .before .enum-told .given .1) in (
       found-good (runChecks (runOf r)) _ (c .before .before .check-run .ensures) (c .enum-told2 .given .1),
       run-in l r (c .before .before .before .run-at .ensures) (c .before .before .before .before .before .before .before .shared-slice-known .given) p .same,
     )
@@ -61,7 +61,7 @@ pub read-run-spec : {M : Type 1} → statement M
 read-run-spec =
     tie.close
     (tie.spec
-    check-run-block-requires
+    check-kind-requires
     enum-known-x
     enum-told
     run-at-requires

@@ -29,8 +29,8 @@ enum-told c = search needs
 good : (c : tie.After-enum-told) → Passes (runChecks (runOf (c .before .before .before .before .args .run)))
 good c = let d = c .before .before in found-good (runChecks (runOf (d .before .before .args .run))) (d .check-run .result) (d .check-run .ensures) (c .enum-told .given .1)
 
-check-piece-block-requires : tie.Need-check-piece-block-requires
-check-piece-block-requires c κs = search needs
+check-kind-requires : tie.Need-check-kind-requires
+check-kind-requires c κs = search needs
 
 enum-known-x-2 : tie.Need-enum-known-x-2
 enum-known-x-2 c = search needs
@@ -41,12 +41,12 @@ enum-told-2 c = search needs
 judge-requires : tie.Need-judge-requires
 judge-requires c κs =
     let d = c .before .before in let l = now (d .before .before .before .before .before .args .block) in
-    (good (d .before), found-good (blockChecks l ++ pieceBytes l) _ (d .check-piece-block .ensures) (c .enum-told2 .given .1))
+    (good (d .before), found-good (blockChecks l ++ pieceBytes l) _ (d .check-kind .ensures) (c .enum-told2 .given .1))
 
 returns-2 : tie.Need-returns-2
 returns-2 c =
     let d = c .before .before .before in let a = d .before .before .before .before .before .args in let l = now (a .block) in let x = c .before .x2 .given .0 .0 in
-    bytes-refused (runOf (a .run)) l (good (d .before)) x (found-bad (blockChecks l ++ pieceBytes l) _ x (d .check-piece-block .ensures) (c .before .x2 .given .1))
+    bytes-refused (runOf (a .run)) l (good (d .before)) x (found-bad (blockChecks l ++ pieceBytes l) _ x (d .check-kind .ensures) (c .before .x2 .given .1))
 
 returns-3 : tie.Need-returns-3
 returns-3 c = search needs
@@ -59,7 +59,7 @@ verdict-in-spec =
     enum-known-x
     returns
     enum-told
-    check-piece-block-requires
+    check-kind-requires
     enum-known-x-2
     enum-told-2
     judge-requires

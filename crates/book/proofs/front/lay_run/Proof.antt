@@ -14,7 +14,7 @@ use Rattle.block.specs.Reading.{wordsAsked}
 use Rattle.block.proofs.Mid.{mid, part-length, two-length, two-then}
 use Rattle.block.proofs.RunLaws.{good-ticks, good-word, machine, read-run}
 use Rattle.block.proofs.Sharp.{sharp-words-asked}
-use Rattle.book.proofs.Lay.{written}
+use Rattle.refusal.proofs.Unique.{written}
 use Rattle.book.proofs.front.lay_run.Statement.{statement}
 use Rattle.book.proofs.front.lay_run.Tie as tie
 
@@ -61,7 +61,7 @@ laid c =
     let b = c .before .before .before .before .before .before in let r = runOf (b .args .run) in let w = c .write-words in
     let part = take 14 (drop 2 (set (set (now (b .args .head)) 0 3) 1 0)) in
     written (wordsAsked part (machine (b .args .run))) (sharp-words-asked part (machine (b .args .run))) (words (machine (b .args .run))) part (w .last .1 .0) (w .result) (w .ensures)
-    (subst (λ zs. Passes (wordsAsked part zs)) (sym (same c)) (part-length (set (set (now (b .args .head)) 0 3) 1 0) 2 14 (simp length-set (omega (arith, b .pre))), (λ j h f. f (good-word r (b .pre .0) j), tt)))
+    (subst (λ zs. Passes (wordsAsked part zs)) (sym (same c)) (part-length (set (set (now (b .args .head)) 0 3) 1 0) 2 14 (simp length-set (omega (arith, b .pre))), (λ j h f. f (good-word r (b .pre .0) j), tt))) .1
     ∙ ap words (same c)
 
 same-length : tie.Need-same-length

@@ -5,13 +5,14 @@ use native.Mathlib.Omega.{arith}
 use lib.ListN.{length, length-set}
 use denote.Ref.{now}
 use borrow.Author.Needs.{needs}
+use borrow.Author.Count.{below-none}
 use Rattle.piece.specs.Numbers.{runOf}
 use Rattle.room.specs.declared.pass.Coded.{Coded}
 use Rattle.room.specs.declared.pass.Coded.the-variants.{Code, NoPiece}
 use Rattle.room.specs.Image.{count, Has}
 use Rattle.room.specs.Codes.{CodeFound, CodesTo}
 use Rattle.room.proofs.Images.{head-few}
-use Rattle.room.proofs.Coding.{none-below, codes-more, codes-pass, codes-stop}
+use Rattle.room.proofs.Coding.{codes-more, codes-pass, codes-stop}
 use Rattle.room.proofs.pass.codes_of.Statement.{statement}
 use Rattle.room.proofs.pass.codes_of.Tie as tie
 
@@ -22,7 +23,7 @@ abbrev μ-loop : tie.MeasureT-loop
 μ-loop run image n codes₀ i₀ codes i = n - i
 
 loop-holds : tie.Need-loop-holds Inv-loop μ-loop
-loop-holds c = (search needs, refl, λ i h. absurd (none-below i h))
+loop-holds c = (search needs, refl, below-none _)
 
 few : (c : tie.In-loop Inv-loop μ-loop) → c .before .loop .i < 126
 few c = let h = head-few _ (c .before .before .before .pre .1) in let e = c .before .before .before .pre .2 in omega arith

@@ -1,22 +1,22 @@
 -- `room::pass::store` meets its contract: the elements below k are the codes. Assumes nothing.
-use mathlib.Core.Path.{_≡_, subst}
+use mathlib.Core.Path.{_≡_, refl, subst}
 use Prim.Native.Nat.{ℕ, _≤_, _-_}
 use denote.Ref.{now}
 use native.Mathlib.Omega.{arith}
 use borrow.Author.Needs.{needs}
-use Rattle.room.specs.Codes.{Stored}
-use Rattle.room.proofs.Coding.{stored-none, stored-more}
+use Rattle.whole.specs.Front.{Front}
+use Rattle.whole.proofs.Front.{front-none, front-more}
 use Rattle.room.proofs.pass.store.Statement.{statement}
 use Rattle.room.proofs.pass.store.Tie as tie
 
 abbrev Inv-loop : tie.InvT-loop
-Inv-loop codes n list₀ k₀ list k = (k ≤ n) × Stored codes k list₀ list
+Inv-loop codes n list₀ k₀ list k = (k ≤ n) × Front 0 codes k list₀ list
 
 abbrev μ-loop : tie.MeasureT-loop
 μ-loop codes n list₀ k₀ list k = n - k
 
 loop-holds : tie.Need-loop-holds Inv-loop μ-loop
-loop-holds c = (search needs, stored-none _ _)
+loop-holds c = (search needs, front-none 0 _ _)
 
 mul-list : tie.Need-mul-list Inv-loop μ-loop
 mul-list c = search needs
@@ -37,7 +37,7 @@ loop-less : tie.Need-loop-less Inv-loop μ-loop
 loop-less c = search needs
 
 loop-again : tie.Need-loop-again Inv-loop μ-loop
-loop-again c = (search needs, stored-more _ _ (c .before .before .loop .list) (c .before .before .loop .k) (omega arith) (c .before .before .loop .inv .1))
+loop-again c = (search needs, front-more 0 _ _ (c .before .before .loop .list) (c .before .before .loop .k) _ refl (omega arith) (c .before .before .loop .inv .1))
 
 same-length : tie.Need-same-length Inv-loop μ-loop
 same-length c = c .before .loop .inv .1 .size
@@ -45,7 +45,7 @@ same-length c = c .before .loop .inv .1 .size
 returns : tie.Need-returns Inv-loop μ-loop
 returns c =
     let k = c .before .loop .k in let n = c .before .before .args .n in let e : k ≡ n = omega arith in
-    subst (λ (m : ℕ). Stored (now (c .before .before .args .codes)) m (now (c .before .before .args .list)) (c .before .loop .list)) e (c .before .loop .inv .1)
+    subst (λ (m : ℕ). Front 0 (now (c .before .before .args .codes)) m (now (c .before .before .args .list)) (c .before .loop .list)) e (c .before .loop .inv .1)
 
 pub store-spec : {M : Type 1} → statement M
 store-spec =

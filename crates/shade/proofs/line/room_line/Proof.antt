@@ -5,11 +5,11 @@ use borrow.Author.Needs.{needs}
 use Rattle.shade.proofs.line.room_line.Statement.{statement}
 use Rattle.shade.proofs.line.room_line.Tie as tie
 
+row-of-requires : tie.Need-row-of-requires
+row-of-requires c κs = search needs
+
 slice-aggregate-put-field : tie.Need-slice-aggregate-put-field
 slice-aggregate-put-field c = search needs
-
-number-of-requires : tie.Need-number-of-requires
-number-of-requires c κs = search needs
 
 put-field-requires : tie.Need-put-field-requires
 put-field-requires c κs = search needs
@@ -23,17 +23,11 @@ put-field-requires-2 c κs = search needs
 slice-aggregate-put-field-3 : tie.Need-slice-aggregate-put-field-3
 slice-aggregate-put-field-3 c = search needs
 
-first-place-requires : tie.Need-first-place-requires
-first-place-requires c κs = search needs
-
 put-field-requires-3 : tie.Need-put-field-requires-3
 put-field-requires-3 c κs = search needs
 
 slice-aggregate-put-field-4 : tie.Need-slice-aggregate-put-field-4
 slice-aggregate-put-field-4 c = search needs
-
-second-place-requires : tie.Need-second-place-requires
-second-place-requires c κs = search needs
 
 put-field-requires-4 : tie.Need-put-field-requires-4
 put-field-requires-4 c κs = search needs
@@ -50,27 +44,25 @@ same-length c = search needs
 returns : tie.Need-returns
 unfolding roomLine
 returns c =
-    let second = c .before .before .before .before .before .before .before in let first = second .before .before .before .before .before .before in let place = first .before .before .before .before .before .before in let head = place .before .before .before .before .before in
-    let number = head .before .number-of .ensures in let a = first .before .first-place .ensures in let b = second .before .second-place .ensures in
-    then (rw number at (head .put-field .ensures .0))
+    let second = c .before .before .before .before .before .before .before in let first = second .before .before .before .before .before in let place = first .before .before .before .before .before in let head = place .before .before .before .before .before in
+    let row = head .before .before .before .row-of .ensures in
+    then (rw (row .0) at (head .put-field .ensures .0))
     (then (place .put-field2 .ensures .0)
-    (then (rw a at (first .put-field3 .ensures .0))
-    (then (rw b at (second .put-field4 .ensures .0)) (c .before .before .put-word .ensures))))
+    (then (rw (row .1) at (first .put-field3 .ensures .0))
+    (then (rw (row .2) at (second .put-field4 .ensures .0)) (c .before .before .put-word .ensures))))
 
 pub room-line-spec : {M : Type 1} → statement M
 room-line-spec =
     tie.close
     (tie.spec
+    row-of-requires
     slice-aggregate-put-field
-    number-of-requires
     put-field-requires
     slice-aggregate-put-field-2
     put-field-requires-2
     slice-aggregate-put-field-3
-    first-place-requires
     put-field-requires-3
     slice-aggregate-put-field-4
-    second-place-requires
     put-field-requires-4
     slice-aggregate-put-word
     put-word-requires

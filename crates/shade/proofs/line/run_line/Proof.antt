@@ -5,11 +5,11 @@ use borrow.Author.Needs.{needs}
 use Rattle.shade.proofs.line.run_line.Statement.{statement}
 use Rattle.shade.proofs.line.run_line.Tie as tie
 
+row-of-requires : tie.Need-row-of-requires
+row-of-requires c κs = search needs
+
 slice-aggregate-put-field : tie.Need-slice-aggregate-put-field
 slice-aggregate-put-field c = search needs
-
-number-of-requires : tie.Need-number-of-requires
-number-of-requires c κs = search needs
 
 put-field-requires : tie.Need-put-field-requires
 put-field-requires c κs = search needs
@@ -26,15 +26,15 @@ same-length c = search needs
 returns : tie.Need-returns
 unfolding runLine
 returns c =
-    let field = c .before .before .before .before .before .before .before in let number = field .before .number-of .ensures in
-    then (rw number at (field .put-field .ensures .0)) (c .before .before .put-word .ensures)
+    let field = c .before .before .before .before .before .before .before in let row = field .before .before .before .row-of .ensures in
+    then (rw (row .0) at (field .put-field .ensures .0)) (c .before .before .put-word .ensures)
 
 pub run-line-spec : {M : Type 1} → statement M
 run-line-spec =
     tie.close
     (tie.spec
+    row-of-requires
     slice-aggregate-put-field
-    number-of-requires
     put-field-requires
     slice-aggregate-put-word
     put-word-requires

@@ -1,0 +1,43 @@
+-- `block::kind::check_kind` meets its contract: length and check are looked at first. Assumes nothing.
+use denote.Ref.{now}
+use Rattle.rules.proofs.Checks.{fault-left}
+use Rattle.block.specs.Reading.{blockChecks, bytesOf}
+use Rattle.block.proofs.Found.{finds-right, found-good, found-bad}
+use borrow.Author.Needs.{needs}
+use Rattle.block.proofs.kind.check_kind.Statement.{statement}
+use Rattle.block.proofs.kind.check_kind.Tie as tie
+
+check-block-requires : tie.Need-check-block-requires
+check-block-requires c κs = search needs
+
+enum-known-x : tie.Need-enum-known-x
+enum-known-x c = search needs
+
+enum-told : tie.Need-enum-told
+enum-told c = search needs
+
+check-bytes-requires : tie.Need-check-bytes-requires
+unfolding blockChecks
+check-bytes-requires c κs = found-good (blockChecks (now (c .before .before .before .before .args .block))) _ (c .before .before .check-block .ensures) (c .enum-told .given .1) .0
+
+returns : tie.Need-returns
+returns c =
+    let a = c .before .before .before .before .before .args in let l = now (a .block) in let k = a .kind in
+    fault-left (blockChecks l) (bytesOf k l) _ (found-bad (blockChecks l) _ _ (c .before .before .before .check-block .ensures) (c .before .x .given .1))
+
+returns-2 : tie.Need-returns-2
+returns-2 c =
+    let a = c .before .before .before .before .before .args in let l = now (a .block) in let k = a .kind in
+    finds-right (blockChecks l) (bytesOf k l) (c .check-bytes .result) (found-good (blockChecks l) _ (c .before .before .before .check-block .ensures) (c .before .enum-told .given .1))
+    (c .check-bytes .ensures)
+
+pub check-kind-spec : {M : Type 1} → statement M
+check-kind-spec =
+    tie.close
+    (tie.spec
+    check-block-requires
+    enum-known-x
+    enum-told
+    check-bytes-requires
+    returns
+    returns-2)
