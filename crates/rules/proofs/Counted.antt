@@ -6,13 +6,14 @@ use native.Mathlib.Omega.{arith}
 use lib.IntN.{ℤ, pos, _+ℤ_, _-ℤ_, _*ℤ_}
 use lib.Signed.{_≤ℤ_, _<ℤ_, leZ}
 use Rattle.whole.proofs.Difference.{all2, all3, ring}
-use Rattle.whole.proofs.Order.{nn-mul, pos-mul, lt-le, lt-sub, le-sub, not-le}
+use Rattle.whole.proofs.Order.{turn-gt, nn-mul, np-mul, neg-mul, pos-mul, pos-neg-mul, le-lt-trans, lt-le, lt-sub, le-sub, sub-mono, sub-lt, not-le, clash}
 use Rattle.whole.proofs.Flag.{lt-true, le-true, le-false, true-lt, true-le, false-le, false-true}
 use Rattle.whole.proofs.Polynomial.{vars3, vars4, vars6, vars7, vars8, poly, by-ring}
 use Rattle.rules.specs.Ring.{Pt}
 use Rattle.rules.specs.Place.{Straddles, rightward, leftward, Above}
-use Rattle.rules.proofs.Segment.{o, side}
+use Rattle.rules.proofs.Segment.{o, side, mean-times, turn-o}
 use Rattle.rules.proofs.Crossing.{tst, crosses}
+use Rattle.rules.proofs.On.{on-turn}
 
 -- ---- counted is the crossing flag
 open-side : (n m ax ay bx by px py : ℤ) → (n *ℤ m) *ℤ side ax ay bx by px py ≡ (bx -ℤ ax) *ℤ (n *ℤ (m *ℤ py) -ℤ n *ℤ (m *ℤ ay)) -ℤ (by -ℤ ay) *ℤ (n *ℤ (m *ℤ px) -ℤ n *ℤ (m *ℤ ax))
@@ -42,34 +43,13 @@ lower n u v h k = go n u v (pos-mul n (v -ℤ u) h (lt-sub _ _ k))
 
 -- k s = e g, k positive, g negative: s has the sign against e
 against : (k s e g : ℤ) → pos 0 <ℤ k → g <ℤ pos 0 → k *ℤ s ≡ e *ℤ g → pos 0 <ℤ e → s <ℤ pos 0
-against k s e g hk hg q he = not-le s (pos 0) (λ hs. go (k *ℤ s) (e *ℤ g) q (nn-mul k s (lt-le _ _ hk) hs) (neg e g he hg))
-  where
-    go : (x y : ℤ) → x ≡ y → pos 0 ≤ℤ x → y <ℤ pos 0 → ⊥
-    go = all2 _ λ a a′ b b′. simp ring (omega arith)
-
-    flip : (e g : ℤ) → pos 0 <ℤ (e *ℤ (pos 0 -ℤ g)) → (e *ℤ g) <ℤ pos 0
-    flip = all2 _ λ a a′ b b′. simp ring (omega arith)
-
-    neg : (e g : ℤ) → pos 0 <ℤ e → g <ℤ pos 0 → (e *ℤ g) <ℤ pos 0
-    neg e g h l = flip e g (pos-mul e (pos 0 -ℤ g) h (lt-sub _ _ l))
+against k s e g hk hg q he = not-le s (pos 0) (λ hs. clash _ _ (pos-neg-mul e g he hg) (rw (← q) (nn-mul k s (lt-le _ _ hk) hs)))
 
 against⁻ : (k s e g : ℤ) → pos 0 <ℤ k → g <ℤ pos 0 → k *ℤ s ≡ e *ℤ g → e <ℤ pos 0 → pos 0 <ℤ s
-against⁻ k s e g hk hg q he = back s (against k (pos 0 -ℤ s) (pos 0 -ℤ e) g hk hg (turn k s ∙ ap (λ z. pos 0 -ℤ z) q ∙ sym (turn′ e g)) (lt-sub _ _ he))
-  where
-    turn : (k s : ℤ) → k *ℤ (pos 0 -ℤ s) ≡ pos 0 -ℤ k *ℤ s
-    turn = all2 _ λ a a′ b b′. simp ring (omega arith)
-
-    turn′ : (e g : ℤ) → (pos 0 -ℤ e) *ℤ g ≡ pos 0 -ℤ e *ℤ g
-    turn′ = all2 _ λ a a′ b b′. simp ring (omega arith)
-
-    back : (s : ℤ) → (pos 0 -ℤ s) <ℤ pos 0 → pos 0 <ℤ s
-    back s h = go s s refl h
-      where
-        go : (s t : ℤ) → s ≡ t → (pos 0 -ℤ s) <ℤ pos 0 → pos 0 <ℤ t
-        go = all2 _ λ a a′ b b′. simp ring (omega arith)
+against⁻ k s e g hk hg q he = not-le (pos 0) s (λ hs. clash _ _ (neg-mul e g he hg) (rw (← q) (np-mul k s (lt-le _ _ hk) hs)))
 
 wide : (a p b : ℤ) → a ≤ℤ p → p <ℤ b → pos 0 <ℤ (b -ℤ a)
-wide = all3 _ λ a a′ b b′ c c′. simp ring (omega arith)
+wide a p b l r = lt-sub _ _ (le-lt-trans _ _ _ l r)
 
 pub counted-yes : (p a b : Pt) → Straddles p a b → Above p a b → crosses a b p ≡ true
 counted-yes p a b (rightward l r) h =
@@ -77,56 +57,32 @@ counted-yes p a b (rightward l r) h =
     (true-lt (o a b p) (pos 0) (against (h .at .m *ℤ h .m) (o a b p) (b .x -ℤ a .x) _ (pos-mul _ _ (h .at .some) (h .some)) (lower (h .at .m) (h .m *ℤ p .y) (h .y) (h .at .some) (h .above)) (height p a b h) (wide (a .x) (p .x) (b .x) l r)))
 counted-yes p a b (leftward l r) h =
     rw (false-le (a .x) (p .x) r, true-le (b .x) (p .x) l)
-    (true-lt (pos 0) (o a b p) (against⁻ (h .at .m *ℤ h .m) (o a b p) (b .x -ℤ a .x) _ (pos-mul _ _ (h .at .some) (h .some)) (lower (h .at .m) (h .m *ℤ p .y) (h .y) (h .at .some) (h .above)) (height p a b h) (down (a .x) (p .x) (b .x) r l)))
-  where
-    down : (a p b : ℤ) → p <ℤ a → b ≤ℤ p → (b -ℤ a) <ℤ pos 0
-    down = all3 _ λ a a′ b b′ c c′. simp ring (omega arith)
+    (true-lt (pos 0) (o a b p) (against⁻ (h .at .m *ℤ h .m) (o a b p) (b .x -ℤ a .x) _ (pos-mul _ _ (h .at .some) (h .some)) (lower (h .at .m) (h .m *ℤ p .y) (h .y) (h .at .some) (h .above)) (height p a b h) (sub-lt _ _ (le-lt-trans _ _ _ l r))))
 
 -- ---- and back: the point of the edge at the point's x
 x-right : (ax bx px : ℤ) → (bx -ℤ ax) *ℤ ((bx -ℤ ax) *ℤ px) ≡ ((bx -ℤ ax) -ℤ (px -ℤ ax)) *ℤ ((bx -ℤ ax) *ℤ ax) +ℤ (px -ℤ ax) *ℤ ((bx -ℤ ax) *ℤ bx)
 x-right = vars3 _ λ ρ. simp poly (by-ring _ _ _ tt)
 
-y-spread : (m i a b : ℤ) → m *ℤ ((m -ℤ i) *ℤ a +ℤ i *ℤ b) ≡ (m -ℤ i) *ℤ (m *ℤ a) +ℤ i *ℤ (m *ℤ b)
-y-spread = vars4 _ λ ρ. simp poly (by-ring _ _ _ tt)
-
 gap-right : (ax ay bx by px py : ℤ) → (bx -ℤ ax) *ℤ py -ℤ (((bx -ℤ ax) -ℤ (px -ℤ ax)) *ℤ ay +ℤ (px -ℤ ax) *ℤ by) ≡ side ax ay bx by px py
 gap-right = vars6 _ λ ρ. simp poly (by-ring _ _ _ tt)
 
-x-left : (ax bx px : ℤ) → (ax -ℤ bx) *ℤ ((ax -ℤ bx) *ℤ px) ≡ ((ax -ℤ bx) -ℤ (ax -ℤ px)) *ℤ ((ax -ℤ bx) *ℤ ax) +ℤ (ax -ℤ px) *ℤ ((ax -ℤ bx) *ℤ bx)
-x-left = vars3 _ λ ρ. simp poly (by-ring _ _ _ tt)
-
-gap-left : (ax ay bx by px py : ℤ) → (((ax -ℤ bx) -ℤ (ax -ℤ px)) *ℤ ay +ℤ (ax -ℤ px) *ℤ by) -ℤ (ax -ℤ bx) *ℤ py ≡ side ax ay bx by px py
-gap-left = vars6 _ λ ρ. simp poly (by-ring _ _ _ tt)
-
 gone : (u v w : ℤ) → u -ℤ v ≡ w → w <ℤ pos 0 → u <ℤ v
 gone = all3 _ λ a a′ b b′ c c′. simp ring (omega arith)
-
-gain : (u v w : ℤ) → u -ℤ v ≡ w → pos 0 <ℤ w → v <ℤ u
-gain = all3 _ λ a a′ b b′ c c′. simp ring (omega arith)
-
-within : (a p b : ℤ) → p <ℤ b → (p -ℤ a) ≤ℤ (b -ℤ a)
-within = all3 _ λ a a′ b b′ c c′. simp ring (omega arith)
-
-within′ : (a p b : ℤ) → b ≤ℤ p → (a -ℤ p) ≤ℤ (a -ℤ b)
-within′ = all3 _ λ a a′ b b′ c c′. simp ring (omega arith)
 
 above-right : (p a b : Pt) → a .x ≤ℤ p .x → p .x <ℤ b .x → o a b p <ℤ pos 0 → Above p a b
 above-right p a b l r s = record {
   m = b .x -ℤ a .x;
   y = ((b .x -ℤ a .x) -ℤ (p .x -ℤ a .x)) *ℤ a .y +ℤ (p .x -ℤ a .x) *ℤ b .y;
   some = wide (a .x) (p .x) (b .x) l r;
-  at = record { m = b .x -ℤ a .x; i = p .x -ℤ a .x; some = wide (a .x) (p .x) (b .x) l r; low = le-sub _ _ l; high = within (a .x) (p .x) (b .x) r; x = x-right (a .x) (b .x) (p .x); y = y-spread (b .x -ℤ a .x) (p .x -ℤ a .x) (a .y) (b .y) };
+  at = record { m = b .x -ℤ a .x; i = p .x -ℤ a .x; some = wide (a .x) (p .x) (b .x) l r; low = le-sub _ _ l; high = sub-mono (a .x) (p .x) (b .x) (lt-le _ _ r); x = x-right (a .x) (b .x) (p .x); y = mean-times (b .x -ℤ a .x) (p .x -ℤ a .x) (a .y) (b .y) };
   above = gone _ _ _ (gap-right (a .x) (a .y) (b .x) (b .y) (p .x) (p .y)) s;
 }
 
+-- leftward is rightward from the other end
 above-left : (p a b : Pt) → b .x ≤ℤ p .x → p .x <ℤ a .x → pos 0 <ℤ o a b p → Above p a b
-above-left p a b l r s = record {
-  m = a .x -ℤ b .x;
-  y = ((a .x -ℤ b .x) -ℤ (a .x -ℤ p .x)) *ℤ a .y +ℤ (a .x -ℤ p .x) *ℤ b .y;
-  some = wide (b .x) (p .x) (a .x) l r;
-  at = record { m = a .x -ℤ b .x; i = a .x -ℤ p .x; some = wide (b .x) (p .x) (a .x) l r; low = lt-le _ _ (lt-sub _ _ r); high = within′ (a .x) (p .x) (b .x) l; x = x-left (a .x) (b .x) (p .x); y = y-spread (a .x -ℤ b .x) (a .x -ℤ p .x) (a .y) (b .y) };
-  above = gain _ _ _ (gap-left (a .x) (a .y) (b .x) (b .y) (p .x) (p .y)) s;
-}
+above-left p a b l r s =
+    let h = above-right p b a l r (rw (turn-o a b p) (turn-gt _ s)) in
+    record { m = h .m; y = h .y; some = h .some; at = on-turn _ _ _ (h .at); above = h .above }
 
 pub yes-counted : (p a b : Pt) → crosses a b p ≡ true → Straddles p a b × Above p a b
 yes-counted p a b = go (leZ (a .x) (p .x)) (leZ (b .x) (p .x)) refl refl

@@ -8,7 +8,7 @@ use lib.IntN.{ℤ, pos, negsuc, negℤ, _+ℤ_, _-ℤ_, _*ℤ_}
 use lib.Signed.{_≤ℤ_, _<ℤ_, leZ, ltZ}
 use Rattle.whole.proofs.Difference.{all, all2, all3, ring}
 use Rattle.whole.proofs.Polynomial.{vars3, vars4, vars6, vars8, poly, num-val, by-ring}
-use Rattle.whole.proofs.Order.{nn-mul, np-mul, pn-mul, pp-mul, neg-mul, not-lt, not-le, clash, le-sub, lt-sub, lt-le}
+use Rattle.whole.proofs.Order.{nn-mul, np-mul, pn-mul, pp-mul, neg-mul, not-lt, not-le, clash, turn-gt, le-sub, lt-sub, sub-lt, lt-le}
 use Rattle.whole.proofs.Flag.{lt-true, lt-false, le-true, le-false, true-lt, false-lt, true-le, false-le}
 use Rattle.rules.specs.Ring.{Pt, Ring, from, to}
 use Rattle.rules.proofs.Ring.{next-inner, next-last}
@@ -71,17 +71,14 @@ module _ (r s t e y z : ℤ) (hs : s <ℤ pos 0) (ht : t <ℤ pos 0) (eq : r *�
   core false true true a b c = true-lt (pos 0) r (not-le (pos 0) r (λ h. clash _ _ (high a b) (pn-mul r e h (lt-le _ _ c))))
   core false true false a b c = false-lt (pos 0) r (not-lt r (pos 0) (λ h. clash _ _ (high a b) (np-mul r e (lt-le _ _ h) c)))
 
-gt-sub : (a b : ℤ) → b <ℤ a → (b -ℤ a) <ℤ pos 0
-gt-sub = all2 _ λ a a′ b b′. simp ring (omega arith)
-
 ge-sub : (a b : ℤ) → b ≤ℤ a → (b -ℤ a) ≤ℤ pos 0
 ge-sub = all2 _ λ a a′ b b′. simp ring (omega arith)
 
 pub sign : (r s t e f y u z v : ℤ) → s <ℤ pos 0 → t <ℤ pos 0 → r *ℤ (f -ℤ e) ≡ s *ℤ (u -ℤ y) -ℤ t *ℤ (v -ℤ z) → tst (leZ y u) (leZ z v) r ≡ xor (leZ y u) (leZ z v) & ltZ e f
 sign r s t e f y u z v hs ht eq =
     core r s t (f -ℤ e) (u -ℤ y) (v -ℤ z) hs ht eq (leZ y u) (leZ z v) (ltZ e f)
-    (says (leZ y u) (λ h. le-sub _ _ (le-true y u h)) (λ h. gt-sub _ _ (le-false y u h)))
-    (says (leZ z v) (λ h. le-sub _ _ (le-true z v h)) (λ h. gt-sub _ _ (le-false z v h)))
+    (says (leZ y u) (λ h. le-sub _ _ (le-true y u h)) (λ h. sub-lt _ _ (le-false y u h)))
+    (says (leZ z v) (λ h. le-sub _ _ (le-true z v h)) (λ h. sub-lt _ _ (le-false z v h)))
     (says (ltZ e f) (λ h. lt-sub _ _ (lt-true e f h)) (λ h. ge-sub _ _ (lt-false e f h)))
 
 -- the same with s and t positive
@@ -94,11 +91,8 @@ turned r s t e f y z h = left r e f ∙ ap negℤ h ∙ right s y t z
     right : (s y t z : ℤ) → negℤ (s *ℤ y -ℤ t *ℤ z) ≡ negℤ s *ℤ y -ℤ negℤ t *ℤ z
     right = vars4 _ λ ρ. simp poly (by-ring _ _ _ tt)
 
-neg-pos : (s : ℤ) → pos 0 <ℤ s → negℤ s <ℤ pos 0
-neg-pos = all _ λ a a′. simp ring (omega arith)
-
 pub sign⁺ : (r s t e f y u z v : ℤ) → pos 0 <ℤ s → pos 0 <ℤ t → r *ℤ (f -ℤ e) ≡ s *ℤ (u -ℤ y) -ℤ t *ℤ (v -ℤ z) → tst (leZ y u) (leZ z v) r ≡ xor (leZ y u) (leZ z v) & ltZ f e
-sign⁺ r s t e f y u z v hs ht eq = sign r (negℤ s) (negℤ t) f e y u z v (neg-pos s hs) (neg-pos t ht) (turned r s t e f (u -ℤ y) (v -ℤ z) eq)
+sign⁺ r s t e f y u z v hs ht eq = sign r (negℤ s) (negℤ t) f e y u z v (turn-gt s hs) (turn-gt t ht) (turned r s t e f (u -ℤ y) (v -ℤ z) eq)
 
 -- ---- four flags that agree with one
 square : (A B C D g : Bool) → xor (xor A B & g) (xor C D & g) ≡ xor (xor A C & g) (xor B D & g)
@@ -156,9 +150,6 @@ tri′ : (px py qx qy vx vy : ℤ) → side px py qx qy vx vy *ℤ pos 1 ≡ (qy
 tri′ = vars6 _ λ ρ. simp (poly, num-val ρ) (by-ring _ _ _ tt)
 
 -- ---- the lemma
-under : (a b : ℤ) → a <ℤ b → (a -ℤ b) <ℤ pos 0
-under = all2 _ λ a a′ b b′. simp ring (omega arith)
-
 pub edge : (a b p q : Pt) → Apart a b p q → xor (crosses a b p) (crosses a b q) ≡ xor (over a p q) (over b p q)
 edge a b p q (right h k) =
     four a b p q (ltZ (a .x) (b .x))
@@ -186,10 +177,10 @@ edge a b p q (left′ h k) =
     (sign⁺ (o p q b) _ _ (q .x) (p .x) (b .x) (p .x) (b .x) (q .x) k k (own′ (o p q b) (q .x) (p .x) (b .x)))
 edge a b p q (below h i j k) =
     four a b p q true
-    (sign (o a b p) _ _ (pos 0) (pos 1) (a .x) (p .x) (b .x) (p .x) (under _ _ i) (under _ _ h) (tri (a .x) (a .y) (b .x) (b .y) (p .x) (p .y)))
-    (sign (o a b q) _ _ (pos 0) (pos 1) (a .x) (q .x) (b .x) (q .x) (under _ _ k) (under _ _ j) (tri (a .x) (a .y) (b .x) (b .y) (q .x) (q .y)))
-    (sign (o p q a) _ _ (pos 0) (pos 1) (a .x) (p .x) (a .x) (q .x) (under _ _ j) (under _ _ h) (tri′ (p .x) (p .y) (q .x) (q .y) (a .x) (a .y)))
-    (sign (o p q b) _ _ (pos 0) (pos 1) (b .x) (p .x) (b .x) (q .x) (under _ _ k) (under _ _ i) (tri′ (p .x) (p .y) (q .x) (q .y) (b .x) (b .y)))
+    (sign (o a b p) _ _ (pos 0) (pos 1) (a .x) (p .x) (b .x) (p .x) (sub-lt _ _ i) (sub-lt _ _ h) (tri (a .x) (a .y) (b .x) (b .y) (p .x) (p .y)))
+    (sign (o a b q) _ _ (pos 0) (pos 1) (a .x) (q .x) (b .x) (q .x) (sub-lt _ _ k) (sub-lt _ _ j) (tri (a .x) (a .y) (b .x) (b .y) (q .x) (q .y)))
+    (sign (o p q a) _ _ (pos 0) (pos 1) (a .x) (p .x) (a .x) (q .x) (sub-lt _ _ j) (sub-lt _ _ h) (tri′ (p .x) (p .y) (q .x) (q .y) (a .x) (a .y)))
+    (sign (o p q b) _ _ (pos 0) (pos 1) (b .x) (p .x) (b .x) (q .x) (sub-lt _ _ k) (sub-lt _ _ i) (tri′ (p .x) (p .y) (q .x) (q .y) (b .x) (b .y)))
 edge a b p q (above h i j k) =
     four a b p q false
     (sign⁺ (o a b p) _ _ (pos 0) (pos 1) (a .x) (p .x) (b .x) (p .x) (lt-sub _ _ i) (lt-sub _ _ h) (tri (a .x) (a .y) (b .x) (b .y) (p .x) (p .y)))
@@ -231,6 +222,10 @@ xor-link false false false = refl
 pub xor-self : (a : Bool) → false ≡ xor a a
 xor-self true = refl
 xor-self false = refl
+
+pub xor-unit : (a : Bool) → xor a false ≡ a
+xor-unit true = refl
+xor-unit false = refl
 
 pub xor-same : (a b : Bool) → xor a b ≡ false → a ≡ b
 xor-same true true e = refl

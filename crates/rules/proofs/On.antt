@@ -5,11 +5,11 @@ use native.Mathlib.Omega.{arith}
 use lib.IntN.{ℤ, pos, _+ℤ_, _-ℤ_, _*ℤ_}
 use lib.Signed.{_≤ℤ_, _<ℤ_}
 use Rattle.whole.proofs.Difference.{all2, all3, ring}
-use Rattle.whole.proofs.Order.{cancel-eq, pos-mul, nn-mul, lt-le, le-or-lt, le-sub, mul-mono, not-lt, clash}
+use Rattle.whole.proofs.Order.{cancel-eq, sub-le, pos-mul, nn-mul, lt-le, le-or-lt, le-sub, mul-mono, not-lt, clash}
 use Rattle.whole.proofs.Polynomial.{vars2, vars3, vars4, vars5, vars6, vars7, poly, num-val, by-ring}
 use Rattle.rules.specs.Ring.{Pt, times, On, Share}
 use Rattle.rules.specs.Good.{Fold}
-use Rattle.rules.proofs.Segment.{Apart, Common, apart, decide}
+use Rattle.rules.proofs.Segment.{Apart, Common, mean-turn, apart, decide}
 
 -- ---- On is `Common` with a segment of one point
 whole-way : (m p : ℤ) → m *ℤ p ≡ (m -ℤ pos 0) *ℤ p +ℤ pos 0 *ℤ p
@@ -105,13 +105,7 @@ on-turn p a b h = record {
   i = h .m -ℤ h .i;
   some = h .some;
   low = le-sub _ _ (h .high);
-  high = less (h .m) (h .i) (h .low);
-  x = h .x ∙ other (h .m) (h .i) (a .x) (b .x);
-  y = h .y ∙ other (h .m) (h .i) (a .y) (b .y);
+  high = sub-le (h .m) (h .i) (h .low);
+  x = h .x ∙ mean-turn (h .m) (h .i) (a .x) (b .x);
+  y = h .y ∙ mean-turn (h .m) (h .i) (a .y) (b .y);
 }
-  where
-    less : (m i : ℤ) → pos 0 ≤ℤ i → (m -ℤ i) ≤ℤ m
-    less = all2 _ λ a a′ b b′. simp ring (omega arith)
-
-    other : (m i a b : ℤ) → (m -ℤ i) *ℤ a +ℤ i *ℤ b ≡ (m -ℤ (m -ℤ i)) *ℤ b +ℤ (m -ℤ i) *ℤ a
-    other = vars4 _ λ ρ. simp poly (by-ring _ _ _ tt)

@@ -13,7 +13,7 @@ use Rattle.whole.proofs.Polynomial.{vars9, poly, by-ring}
 use Rattle.rules.specs.Ring.{Pt, Ring, from, to, On}
 use Rattle.rules.specs.Place.{OnRing, Straddles, Above, Counted, Count, start, more, pass, Where, on, inside, outside, Parity, Place}
 use Rattle.rules.proofs.Segment.{o, side}
-use Rattle.rules.proofs.Crossing.{tst, xor, crosses, flag, parity, parity-ext}
+use Rattle.rules.proofs.Crossing.{tst, xor, xor-unit, crosses, flag, parity, parity-ext}
 use Rattle.rules.proofs.Counted.{counted-yes, yes-counted}
 use Rattle.rules.proofs.On.{on-or-off, off-not-on, move, on-move, on-unmove}
 
@@ -26,10 +26,6 @@ flipped : (k : ℕ) (t : Bool) → k % 2 ≡ bit t → suc k % 2 ≡ bit (xor t 
 flipped k true e = omega arith
 flipped k false e = omega arith
 
-kept : (t : Bool) → xor t false ≡ t
-kept true = refl
-kept false = refl
-
 not-counted : (r : Ring) (p : Pt) (n : ℕ) → flag r p n ≡ false → Counted r p n → ⊥
 not-counted r p n e c = false-true (sym e ∙ counted-yes p (from r n) (to r n) (c .0) (c .1))
 
@@ -39,7 +35,7 @@ unfolding parity
 count-parity r p zero zero start = refl
 count-parity r p (suc n) (suc k) (more c h) = flipped k (parity (flag r p) n) (count-parity r p n k h) ∙ ap (λ t. bit (xor (parity (flag r p) n) t)) (sym (counted-yes p (from r n) (to r n) (c .0) (c .1)))
 count-parity r p (suc n) k (pass f h) =
-    ⊎-elim (λ e. absurd (f (yes-counted p (from r n) (to r n) e))) (λ e. count-parity r p n k h ∙ ap bit (sym (ap (λ t. xor (parity (flag r p) n) t) e ∙ kept (parity (flag r p) n))))
+    ⊎-elim (λ e. absurd (f (yes-counted p (from r n) (to r n) e))) (λ e. count-parity r p n k h ∙ ap bit (sym (ap (λ t. xor (parity (flag r p) n) t) e ∙ xor-unit (parity (flag r p) n))))
     (decided (flag r p n))
 
 -- there is a count
@@ -77,21 +73,19 @@ some-place r p = ⊎-elim (λ h. (on, h)) (λ f. go f (parity (flag r p) (r .siz
     go f true h = (inside, h)
     go f false h = (outside, h)
 
+-- the two remainders differ
+pub zero-one : {n : ℕ} → 0 ≡ n → 1 ≡ n → ⊥
+zero-one e f = omega arith
+
 pub one-place : (r : Ring) (p : Pt) (v w : Where) → Place r p v → Place r p w → v ≡ w
 one-place r p on on h k = refl
 one-place r p on inside h k = absurd (k .off h)
 one-place r p on outside h k = absurd (k .off h)
 one-place r p inside on h k = absurd (h .off k)
 one-place r p inside inside h k = refl
-one-place r p inside outside h k = absurd (apart (place-parity r p 1 h) (place-parity r p 0 k))
-  where
-    apart : {n : ℕ} → 1 ≡ n → 0 ≡ n → ⊥
-    apart e f = omega arith
+one-place r p inside outside h k = absurd (zero-one (place-parity r p 0 k) (place-parity r p 1 h))
 one-place r p outside on h k = absurd (h .off k)
-one-place r p outside inside h k = absurd (apart (place-parity r p 0 h) (place-parity r p 1 k))
-  where
-    apart : {n : ℕ} → 0 ≡ n → 1 ≡ n → ⊥
-    apart e f = omega arith
+one-place r p outside inside h k = absurd (zero-one (place-parity r p 0 h) (place-parity r p 1 k))
 one-place r p outside outside h k = refl
 
 -- ---- scaled and shifted

@@ -27,3 +27,9 @@ next-ways n i h =
 
 pub next-below : (n i : ℕ) → i < n → next n i < n
 next-below n i h = ⊎-elim (λ w. rw (w .1) (w .0)) (λ w. rw (w .1) (omega arith)) (next-ways n i h)
+
+-- at most one number has a number for its next
+pub next-one : (n h k : ℕ) → h < n → k < n → next n h ≡ next n k → h ≡ k
+next-one n h k a b e =
+    ⊎-elim (λ w. ⊎-elim (λ v. omega arith) (λ v. absurd (omega arith)) (next-ways n k b)) (λ w. ⊎-elim (λ v. absurd (omega arith)) (λ v. omega arith) (next-ways n k b))
+    (next-ways n h a)

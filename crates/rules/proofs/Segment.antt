@@ -6,7 +6,7 @@ use lib.IntN.{ℤ, pos, negsuc, negℤ, _+ℤ_, _-ℤ_, _*ℤ_, +ℤ-invr}
 use lib.Signed.{_≤ℤ_, _<ℤ_}
 use Rattle.whole.proofs.Difference.{all, all2, all3, all4, ring}
 use Rattle.whole.proofs.Polynomial.{vars4, vars6, vars7, vars8, vars10, poly, num-val, by-ring}
-use Rattle.whole.proofs.Order.{np-mul, pos-mul, le-sub, lt-sub, lt-le, le-or-lt, Tri, less, same, more, tri}
+use Rattle.whole.proofs.Order.{np-mul, pos-neg-mul, neg-not, pos-not, turn-le, turn-ge, turn-gt, le-sub, lt-sub, sub-mono, sub-lt, sub-le, le-trans, lt-le, le-or-lt, clash, Tri, less, same, more, tri}
 use Rattle.rules.specs.Ring.{Pt}
 
 -- twice the side of a b p, positive where p is to the left of a → b
@@ -15,6 +15,10 @@ o a b p = (b .x -ℤ a .x) *ℤ (p .y -ℤ a .y) -ℤ (b .y -ℤ a .y) *ℤ (p .
 
 abbrev pub side : ℤ → ℤ → ℤ → ℤ → ℤ → ℤ → ℤ
 side ax ay bx by px py = (bx -ℤ ax) *ℤ (py -ℤ ay) -ℤ (by -ℤ ay) *ℤ (px -ℤ ax)
+
+-- a segment of one point has no sides
+pub no-line : (px py vx vy : ℤ) → side px py px py vx vy ≡ pos 0
+no-line = vars4 _ λ ρ. simp (poly, num-val ρ) (by-ring _ _ _ tt)
 
 -- the closed segments a b and p q have no point in common: one of four lines has them strictly on its two sides
 pub data Apart (a b p q : Pt) : Type 0 where
@@ -40,6 +44,13 @@ pub record Common (a b p q : Pt) : Type 0 where
   pub x : (n -ℤ i) *ℤ a .x +ℤ i *ℤ b .x ≡ (n -ℤ j) *ℤ p .x +ℤ j *ℤ q .x
   pub y : (n -ℤ i) *ℤ a .y +ℤ i *ℤ b .y ≡ (n -ℤ j) *ℤ p .y +ℤ j *ℤ q .y
 
+-- a mean from the other end, and n times it
+pub mean-turn : (n i u v : ℤ) → (n -ℤ i) *ℤ u +ℤ i *ℤ v ≡ (n -ℤ (n -ℤ i)) *ℤ v +ℤ (n -ℤ i) *ℤ u
+mean-turn = vars4 _ λ ρ. simp poly (by-ring _ _ _ tt)
+
+pub mean-times : (n i u v : ℤ) → n *ℤ ((n -ℤ i) *ℤ u +ℤ i *ℤ v) ≡ (n -ℤ i) *ℤ (n *ℤ u) +ℤ i *ℤ (n *ℤ v)
+mean-times = vars4 _ λ ρ. simp poly (by-ring _ _ _ tt)
+
 -- a weighted sum of two negative numbers is negative
 pub mix : (n j u v : ℤ) → pos 0 <ℤ n → pos 0 ≤ℤ j → j ≤ℤ n → u <ℤ pos 0 → v <ℤ pos 0 → ((n -ℤ j) *ℤ u +ℤ j *ℤ v) <ℤ pos 0
 mix n j u v hn h k hu hv = ⊎-elim (λ z. at-zero z) (λ z. past z) (le-or-lt j (pos 0))
@@ -50,27 +61,18 @@ mix n j u v hn h k hu hv = ⊎-elim (λ z. at-zero z) (λ z. past z) (le-or-lt j
     sum′ : (x y : ℤ) → x ≤ℤ pos 0 → y <ℤ pos 0 → (x +ℤ y) <ℤ pos 0
     sum′ = all2 _ λ a a′ b b′. simp ring (omega arith)
 
-    flip : (a b : ℤ) → pos 0 <ℤ (a *ℤ negℤ b) → (a *ℤ b) <ℤ pos 0
-    flip = all2 _ λ a a′ b b′. simp ring (omega arith)
-
-    turn : (a : ℤ) → a <ℤ pos 0 → pos 0 <ℤ negℤ a
-    turn = all _ λ a a′. simp ring (omega arith)
-
     less : (n j : ℤ) → pos 0 <ℤ n → j ≤ℤ pos 0 → pos 0 <ℤ (n -ℤ j)
     less = all2 _ λ a a′ b b′. simp ring (omega arith)
 
     at-zero : j ≤ℤ pos 0 → ((n -ℤ j) *ℤ u +ℤ j *ℤ v) <ℤ pos 0
-    at-zero z = sum _ _ (flip (n -ℤ j) u (pos-mul (n -ℤ j) (negℤ u) (less n j hn z) (turn u hu))) (np-mul j v h (lt-le _ _ hv))
+    at-zero z = sum _ _ (pos-neg-mul (n -ℤ j) u (less n j hn z) hu) (np-mul j v h (lt-le _ _ hv))
 
     past : pos 0 <ℤ j → ((n -ℤ j) *ℤ u +ℤ j *ℤ v) <ℤ pos 0
-    past z = sum′ _ _ (np-mul (n -ℤ j) u (le-sub _ _ k) (lt-le _ _ hu)) (flip j v (pos-mul j (negℤ v) z (turn v hv)))
+    past z = sum′ _ _ (np-mul (n -ℤ j) u (le-sub _ _ k) (lt-le _ _ hu)) (pos-neg-mul j v z hv)
 
 pub mix⁺ : (n j u v : ℤ) → pos 0 <ℤ n → pos 0 ≤ℤ j → j ≤ℤ n → pos 0 <ℤ u → pos 0 <ℤ v → pos 0 <ℤ ((n -ℤ j) *ℤ u +ℤ j *ℤ v)
-mix⁺ n j u v hn h k hu hv = back n j u v (mix n j (negℤ u) (negℤ v) hn h k (turn u hu) (turn v hv))
+mix⁺ n j u v hn h k hu hv = back n j u v (mix n j (negℤ u) (negℤ v) hn h k (turn-gt u hu) (turn-gt v hv))
   where
-    turn : (a : ℤ) → pos 0 <ℤ a → negℤ a <ℤ pos 0
-    turn = all _ λ a a′. simp ring (omega arith)
-
     swap : (x y : ℤ) → x ≡ negℤ y → x <ℤ pos 0 → pos 0 <ℤ y
     swap = all2 _ λ a a′ b b′. simp ring (omega arith)
 
@@ -92,20 +94,11 @@ on-line a b p q c = lin₁ (a .x) (a .y) (b .x) (b .y) (p .x) (p .y) (q .x) (q .
 unfoldable pub flipped : (a b p q : Pt) → Common a b p q → Common p q a b
 flipped a b p q c = record { n = c .n; i = c .j; j = c .i; some = c .some; i-low = c .j-low; i-high = c .j-high; j-low = c .i-low; j-high = c .i-high; x = sym (c .x); y = sym (c .y) }
 
-neg-not : (x : ℤ) → x ≡ pos 0 → x <ℤ pos 0 → ⊥
-neg-not = all _ λ a a′. simp ring (omega arith)
-
-pos-not : (x : ℤ) → x ≡ pos 0 → pos 0 <ℤ x → ⊥
-pos-not = all _ λ a a′. simp ring (omega arith)
-
 -- two numbers below two numbers have no mean in common with them
 means : (n i j u v s t : ℤ) → pos 0 <ℤ n → pos 0 ≤ℤ i → i ≤ℤ n → pos 0 ≤ℤ j → j ≤ℤ n → (n -ℤ i) *ℤ u +ℤ i *ℤ v ≡ (n -ℤ j) *ℤ s +ℤ j *ℤ t → s <ℤ u → s <ℤ v → t <ℤ u → t <ℤ v → ⊥
 means n i j u v s t hn i₀ i₁ j₀ j₁ e su sv tu tv =
-    neg-not _ ((rw e at (zero n i j u v s t)) ∙ +ℤ-invr (n *ℤ ((n -ℤ j) *ℤ s +ℤ j *ℤ t))) (mix n i _ _ hn i₀ i₁ (mix n j (s -ℤ u) (t -ℤ u) hn j₀ j₁ (under _ _ su) (under _ _ tu)) (mix n j (s -ℤ v) (t -ℤ v) hn j₀ j₁ (under _ _ sv) (under _ _ tv)))
+    neg-not _ ((rw e at (zero n i j u v s t)) ∙ +ℤ-invr (n *ℤ ((n -ℤ j) *ℤ s +ℤ j *ℤ t))) (mix n i _ _ hn i₀ i₁ (mix n j (s -ℤ u) (t -ℤ u) hn j₀ j₁ (sub-lt _ _ su) (sub-lt _ _ tu)) (mix n j (s -ℤ v) (t -ℤ v) hn j₀ j₁ (sub-lt _ _ sv) (sub-lt _ _ tv)))
   where
-    under : (a b : ℤ) → a <ℤ b → (a -ℤ b) <ℤ pos 0
-    under = all2 _ λ a a′ b b′. simp ring (omega arith)
-
     zero : (n i j u v s t : ℤ) → (n -ℤ i) *ℤ ((n -ℤ j) *ℤ (s -ℤ u) +ℤ j *ℤ (t -ℤ u)) +ℤ i *ℤ ((n -ℤ j) *ℤ (s -ℤ v) +ℤ j *ℤ (t -ℤ v)) ≡ n *ℤ ((n -ℤ j) *ℤ s +ℤ j *ℤ t) -ℤ n *ℤ ((n -ℤ i) *ℤ u +ℤ i *ℤ v)
     zero = vars7 _ λ ρ. simp poly (by-ring _ _ _ tt)
 
@@ -140,26 +133,8 @@ x-up = vars4 _ λ ρ. simp (poly, num-val ρ) (by-ring _ _ _ tt)
 y-up : (ax ay bx by px py qx qy : ℤ) → ((bx -ℤ ax) -ℤ (px -ℤ ax)) *ℤ ay +ℤ (px -ℤ ax) *ℤ by ≡ (((bx -ℤ ax) -ℤ pos 0) *ℤ py +ℤ pos 0 *ℤ qy) -ℤ side ax ay bx by px py
 y-up = vars8 _ λ ρ. simp (poly, num-val ρ) (by-ring _ _ _ tt)
 
-x-down : (ax bx px qx : ℤ) → ((ax -ℤ bx) -ℤ (ax -ℤ px)) *ℤ ax +ℤ (ax -ℤ px) *ℤ bx ≡ ((ax -ℤ bx) -ℤ pos 0) *ℤ px +ℤ pos 0 *ℤ qx
-x-down = vars4 _ λ ρ. simp (poly, num-val ρ) (by-ring _ _ _ tt)
-
-y-down : (ax ay bx by px py qx qy : ℤ) → ((ax -ℤ bx) -ℤ (ax -ℤ px)) *ℤ ay +ℤ (ax -ℤ px) *ℤ by ≡ (((ax -ℤ bx) -ℤ pos 0) *ℤ py +ℤ pos 0 *ℤ qy) +ℤ side ax ay bx by px py
-y-down = vars8 _ λ ρ. simp (poly, num-val ρ) (by-ring _ _ _ tt)
-
 sub-zero : (u v w : ℤ) → u ≡ v -ℤ w → w ≡ pos 0 → u ≡ v
 sub-zero = all3 _ λ a a′ b b′ c c′. simp ring (omega arith)
-
-add-zero : (u v w : ℤ) → u ≡ v +ℤ w → w ≡ pos 0 → u ≡ v
-add-zero = all3 _ λ a a′ b b′ c c′. simp ring (omega arith)
-
-sub-mono : (u w v : ℤ) → w ≤ℤ v → (w -ℤ u) ≤ℤ (v -ℤ u)
-sub-mono = all3 _ λ a a′ b b′ c c′. simp ring (omega arith)
-
-sub-anti : (u w v : ℤ) → v ≤ℤ w → (u -ℤ w) ≤ℤ (u -ℤ v)
-sub-anti = all3 _ λ a a′ b b′ c c′. simp ring (omega arith)
-
-nn : (n : ℤ) → pos 0 <ℤ n → pos 0 ≤ℤ n
-nn n = lt-le (pos 0) n
 
 on-up : (a b p q : Pt) → o a b p ≡ pos 0 → a .x <ℤ b .x → a .x ≤ℤ p .x → p .x ≤ℤ b .x → Common a b p q
 on-up a b p q z h k l = record {
@@ -170,25 +145,12 @@ on-up a b p q z h k l = record {
   i-low = le-sub _ _ k;
   i-high = sub-mono (a .x) (p .x) (b .x) l;
   j-low = record { le = tt };
-  j-high = nn _ (lt-sub _ _ h);
+  j-high = lt-le _ _ (lt-sub _ _ h);
   x = x-up (a .x) (b .x) (p .x) (q .x);
   y = sub-zero _ _ _ (y-up (a .x) (a .y) (b .x) (b .y) (p .x) (p .y) (q .x) (q .y)) z;
 }
 
-on-down : (a b p q : Pt) → o a b p ≡ pos 0 → b .x <ℤ a .x → b .x ≤ℤ p .x → p .x ≤ℤ a .x → Common a b p q
-on-down a b p q z h k l = record {
-  n = a .x -ℤ b .x;
-  i = a .x -ℤ p .x;
-  j = pos 0;
-  some = lt-sub _ _ h;
-  i-low = le-sub _ _ l;
-  i-high = sub-anti (a .x) (p .x) (b .x) k;
-  j-low = record { le = tt };
-  j-high = nn _ (lt-sub _ _ h);
-  x = x-down (a .x) (b .x) (p .x) (q .x);
-  y = add-zero _ _ _ (y-down (a .x) (a .y) (b .x) (b .y) (p .x) (p .y) (q .x) (q .y)) z;
-}
-
+-- p and q change places
 swapped : (a b p q : Pt) → Common a b q p → Common a b p q
 swapped a b p q c = record {
   n = c .n;
@@ -198,19 +160,23 @@ swapped a b p q c = record {
   i-low = c .i-low;
   i-high = c .i-high;
   j-low = le-sub _ _ (c .j-high);
-  j-high = under (c .n) (c .j) (c .j-low);
-  x = c .x ∙ turn (c .n) (c .j) (p .x) (q .x);
-  y = c .y ∙ turn (c .n) (c .j) (p .y) (q .y);
+  j-high = sub-le (c .n) (c .j) (c .j-low);
+  x = c .x ∙ mean-turn (c .n) (c .j) (q .x) (p .x);
+  y = c .y ∙ mean-turn (c .n) (c .j) (q .y) (p .y);
 }
-  where
-    under : (n j : ℤ) → pos 0 ≤ℤ j → (n -ℤ j) ≤ℤ n
-    under = all2 _ λ a a′ b b′. simp ring (omega arith)
 
-    turn : (n j s t : ℤ) → (n -ℤ j) *ℤ t +ℤ j *ℤ s ≡ (n -ℤ (n -ℤ j)) *ℤ s +ℤ (n -ℤ j) *ℤ t
-    turn = vars4 _ λ ρ. simp poly (by-ring _ _ _ tt)
+-- and a and b, which turns the side's sign
+turn-side : (ax ay bx by px py : ℤ) → side bx by ax ay px py ≡ negℤ (side ax ay bx by px py)
+turn-side = vars6 _ λ ρ. simp poly (by-ring _ _ _ tt)
 
-clash3 : (u v w : ℤ) → v <ℤ u → u ≤ℤ w → w ≤ℤ v → ⊥
-clash3 = all3 _ λ a a′ b b′ c c′. simp ring (omega arith)
+pub turn-o : (a b p : Pt) → o b a p ≡ negℤ (o a b p)
+turn-o a b p = turn-side (a .x) (a .y) (b .x) (b .y) (p .x) (p .y)
+
+turned : (a b p q : Pt) → Common b a p q → Common a b p q
+turned a b p q c = flipped p q a b (swapped p q a b (flipped b a p q c))
+
+on-down : (a b p q : Pt) → o a b p ≡ pos 0 → b .x <ℤ a .x → b .x ≤ℤ p .x → p .x ≤ℤ a .x → Common a b p q
+on-down a b p q z h k l = turned a b p q (on-up b a p q (turn-o a b p ∙ ap negℤ z) h k l)
 
 lt-trans : (u v w : ℤ) → u <ℤ v → v <ℤ w → u <ℤ w
 lt-trans = all3 _ λ a a′ b b′ c c′. simp ring (omega arith)
@@ -218,15 +184,16 @@ lt-trans = all3 _ λ a a′ b b′ c c′. simp ring (omega arith)
 abbrev Off : ℤ → ℤ → Type 0
 Off u v = (u <ℤ v) ⊎ (v <ℤ u)
 
-data Sep (u v s t : ℤ) : Type 0 where
+-- two ranges, one wholly before the other
+pub data Sep (u v s t : ℤ) : Type 0 where
   ahead : s <ℤ u → s <ℤ v → t <ℤ u → t <ℤ v → Sep u v s t
   after : u <ℤ s → v <ℤ s → u <ℤ t → v <ℤ t → Sep u v s t
 
 at-up : (a b p q : Pt) → o a b p ≡ pos 0 → Off (a .x) (b .x) → a .x ≤ℤ p .x → p .x ≤ℤ b .x → Common a b p q
-at-up a b p q z d k l = ⊎-elim (λ h. on-up a b p q z h k l) (λ h. absurd (clash3 (a .x) (b .x) (p .x) h k l)) d
+at-up a b p q z d k l = ⊎-elim (λ h. on-up a b p q z h k l) (λ h. absurd (clash _ _ h (le-trans _ _ _ k l))) d
 
 at-down : (a b p q : Pt) → o a b p ≡ pos 0 → Off (a .x) (b .x) → b .x ≤ℤ p .x → p .x ≤ℤ a .x → Common a b p q
-at-down a b p q z d k l = ⊎-elim (λ h. absurd (clash3 (b .x) (a .x) (p .x) h k l)) (λ h. on-down a b p q z h k l) d
+at-down a b p q z d k l = ⊎-elim (λ h. absurd (clash _ _ h (le-trans _ _ _ k l))) (λ h. on-down a b p q z h k l) d
 
 coll-x : (a b p q : Pt) → o a b p ≡ pos 0 → o a b q ≡ pos 0 → o p q a ≡ pos 0 → Off (a .x) (b .x) → Loc (a .x) (b .x) (p .x) → Loc (a .x) (b .x) (q .x) → Sep (a .x) (b .x) (p .x) (q .x) ⊎ Common a b p q
 coll-x a b p q z1 z2 z3 d (up k l) m = inr (at-up a b p q z1 d k l)
@@ -290,17 +257,18 @@ tr-common a b p q c = record { n = c .n; i = c .i; j = c .j; some = c .some; i-l
 at-one : (u v s t : ℤ) → u ≡ s → (pos 1 -ℤ pos 0) *ℤ u +ℤ pos 0 *ℤ v ≡ (pos 1 -ℤ pos 0) *ℤ s +ℤ pos 0 *ℤ t
 at-one = all4 _ λ a a′ b b′ c c′ d d′. simp ring (omega arith)
 
+-- ranges apart, of x or of y, have the segments apart
+pub by-x : (a b p q : Pt) → Sep (a .x) (b .x) (p .x) (q .x) → Apart a b p q
+by-x a b p q (ahead h i j k) = before h i j k
+by-x a b p q (after h i j k) = behind h i j k
+
+pub by-y : (a b p q : Pt) → Sep (a .y) (b .y) (p .y) (q .y) → Apart a b p q
+by-y a b p q (ahead h i j k) = below h i j k
+by-y a b p q (after h i j k) = above h i j k
+
 coll : (a b p q : Pt) → o a b p ≡ pos 0 → o a b q ≡ pos 0 → o p q a ≡ pos 0 → o p q b ≡ pos 0 → Apart a b p q ⊎ Common a b p q
-coll a b p q z1 z2 z3 z4 = ⊎-elim (λ h. ⊎-elim (λ s. inl (by-x s)) inr h) (λ f. ⊎-elim (λ h. ⊎-elim (λ s. inl (by-y s)) (λ c. inr (tr-common a b p q c)) h) (λ g. inr (one f g)) (flat (tr a) (tr b) (tr p) (tr q) (tr-zero a b p z1) (tr-zero a b q z2) (tr-zero p q a z3) (tr-zero p q b z4))) (flat a b p q z1 z2 z3 z4)
+coll a b p q z1 z2 z3 z4 = ⊎-elim (λ h. ⊎-elim (λ s. inl (by-x a b p q s)) inr h) (λ f. ⊎-elim (λ h. ⊎-elim (λ s. inl (by-y a b p q s)) (λ c. inr (tr-common a b p q c)) h) (λ g. inr (one f g)) (flat (tr a) (tr b) (tr p) (tr q) (tr-zero a b p z1) (tr-zero a b q z2) (tr-zero p q a z3) (tr-zero p q b z4))) (flat a b p q z1 z2 z3 z4)
   where
-    by-x : Sep (a .x) (b .x) (p .x) (q .x) → Apart a b p q
-    by-x (ahead h i j k) = before h i j k
-    by-x (after h i j k) = behind h i j k
-
-    by-y : Sep (a .y) (b .y) (p .y) (q .y) → Apart a b p q
-    by-y (ahead h i j k) = below h i j k
-    by-y (after h i j k) = above h i j k
-
     one : Flat (a .x) (b .x) (p .x) (q .x) → Flat (a .y) (b .y) (p .y) (q .y) → Common a b p q
     one f g = record {
       n = pos 1;
@@ -320,15 +288,24 @@ data Opp (u v : ℤ) : Type 0 where
   rise : u ≤ℤ pos 0 → pos 0 ≤ℤ v → Opp u v
   fall : pos 0 ≤ℤ u → v ≤ℤ pos 0 → Opp u v
 
-data Sides (u v : ℤ) : Type 0 where
-  minus : u <ℤ pos 0 → v <ℤ pos 0 → Sides u v
-  plus : pos 0 <ℤ u → pos 0 <ℤ v → Sides u v
-  opp : Opp u v → Sides u v
+-- two numbers of one strict sign
+pub data Signs (u v : ℤ) : Type 0 where
+  minus : u <ℤ pos 0 → v <ℤ pos 0 → Signs u v
+  plus : pos 0 <ℤ u → pos 0 <ℤ v → Signs u v
 
-sides : (u v : ℤ) → Sides u v
+-- both ends of one segment on one side of the other
+pub by-edge : (a b p q : Pt) → Signs (o a b p) (o a b q) → Apart a b p q
+by-edge a b p q (minus h k) = right h k
+by-edge a b p q (plus h k) = left h k
+
+pub by-way : (a b p q : Pt) → Signs (o p q a) (o p q b) → Apart a b p q
+by-way a b p q (minus h k) = right′ h k
+by-way a b p q (plus h k) = left′ h k
+
+sides : (u v : ℤ) → Signs u v ⊎ Opp u v
 sides u v =
-    ⊎-elim (λ h. ⊎-elim (λ k. opp (rise h k)) (λ k. ⊎-elim (λ l. opp (fall l (lt-le _ _ k))) (λ l. minus l k) (le-or-lt (pos 0) u)) (le-or-lt (pos 0) v))
-    (λ h. ⊎-elim (λ k. opp (fall (lt-le _ _ h) k)) (λ k. plus h k) (le-or-lt v (pos 0))) (le-or-lt u (pos 0))
+    ⊎-elim (λ h. ⊎-elim (λ k. inr (rise h k)) (λ k. ⊎-elim (λ l. inr (fall l (lt-le _ _ k))) (λ l. inl (minus l k)) (le-or-lt (pos 0) u)) (le-or-lt (pos 0) v))
+    (λ h. ⊎-elim (λ k. inr (fall (lt-le _ _ h) k)) (λ k. inl (plus h k)) (le-or-lt v (pos 0))) (le-or-lt u (pos 0))
 
 rising : (u v : ℤ) → Opp u v → u <ℤ v → (u ≤ℤ pos 0) × (pos 0 ≤ℤ v)
 rising u v (rise h k) l = (h, k)
@@ -363,9 +340,6 @@ other-eq = all4 _ λ a a′ b b′ c c′ d d′. simp ring (omega arith)
 fit : (u v s t : ℤ) → u +ℤ s ≡ v +ℤ t → t ≤ℤ pos 0 → s ≤ℤ (v -ℤ u)
 fit = all4 _ λ a a′ b b′ c c′ d d′. simp ring (omega arith)
 
-nn-neg : (u : ℤ) → u ≤ℤ pos 0 → pos 0 ≤ℤ negℤ u
-nn-neg = all _ λ a a′. simp ring (omega arith)
-
 neg-fit : (u v : ℤ) → pos 0 ≤ℤ v → negℤ u ≤ℤ (v -ℤ u)
 neg-fit = all2 _ λ a a′ b b′. simp ring (omega arith)
 
@@ -387,46 +361,27 @@ meet a b p q m k h =
       some = lt-sub _ _ h;
       i-low = g .1;
       i-high = fit (o a b p) (o a b q) (o p q a) (o p q b) e (g .0);
-      j-low = nn-neg (o a b p) (f .0);
+      j-low = turn-le (o a b p) (f .0);
       j-high = neg-fit (o a b p) (o a b q) (f .1);
       x = meet-x (a .x) (a .y) (b .x) (b .y) (p .x) (p .y) (q .x) (q .y);
       y = meet-y (a .x) (a .y) (b .x) (b .y) (p .x) (p .y) (q .x) (q .y);
     }
 
--- p and q change places
-pq-side : (px py qx qy vx vy : ℤ) → side qx qy px py vx vy ≡ negℤ (side px py qx qy vx vy)
-pq-side = vars6 _ λ ρ. simp poly (by-ring _ _ _ tt)
-
+-- both signs turned
 neg-opp : (u v s t : ℤ) → s ≡ negℤ u → t ≡ negℤ v → Opp u v → Opp s t
-neg-opp u v s t e f (rise h k) = fall (go u s e h) (go′ v t f k)
-  where
-    go : (u s : ℤ) → s ≡ negℤ u → u ≤ℤ pos 0 → pos 0 ≤ℤ s
-    go = all2 _ λ a a′ b b′. simp ring (omega arith)
-
-    go′ : (u s : ℤ) → s ≡ negℤ u → pos 0 ≤ℤ u → s ≤ℤ pos 0
-    go′ = all2 _ λ a a′ b b′. simp ring (omega arith)
-neg-opp u v s t e f (fall h k) = rise (go′ u s e h) (go v t f k)
-  where
-    go : (u s : ℤ) → s ≡ negℤ u → u ≤ℤ pos 0 → pos 0 ≤ℤ s
-    go = all2 _ λ a a′ b b′. simp ring (omega arith)
-
-    go′ : (u s : ℤ) → s ≡ negℤ u → pos 0 ≤ℤ u → s ≤ℤ pos 0
-    go′ = all2 _ λ a a′ b b′. simp ring (omega arith)
+neg-opp u v s t e f (rise h k) = fall (rw e (turn-le u h)) (rw f (turn-ge v k))
+neg-opp u v s t e f (fall h k) = rise (rw e (turn-ge u h)) (rw f (turn-le v k))
 
 crossing : (a b p q : Pt) → Opp (o a b p) (o a b q) → Opp (o p q a) (o p q b) → Tri (o a b p) (o a b q) → Apart a b p q ⊎ Common a b p q
 crossing a b p q m k (less h) = inr (meet a b p q m k h)
-crossing a b p q m k (more h) = inr (swapped a b p q (meet a b q p (turn-opp _ _ m) (neg-opp _ _ _ _ (pq-side (p .x) (p .y) (q .x) (q .y) (a .x) (a .y)) (pq-side (p .x) (p .y) (q .x) (q .y) (b .x) (b .y)) k) h))
+crossing a b p q m k (more h) = inr (swapped a b p q (meet a b q p (turn-opp _ _ m) (neg-opp _ _ _ _ (turn-o p q a) (turn-o p q b) k) h))
 crossing a b p q m k (same e) =
     let f = level _ _ m e in
     let g = level _ _ k (other-eq (o a b p) (o a b q) (o p q a) (o p q b) (sum4 (a .x) (a .y) (b .x) (b .y) (p .x) (p .y) (q .x) (q .y)) e) in
     coll a b p q (f .0) (f .1) (g .0) (g .1)
 
 pub decide : (a b p q : Pt) → Apart a b p q ⊎ Common a b p q
-decide a b p q = first (sides (o a b p) (o a b q)) (sides (o p q a) (o p q b))
-  where
-    first : Sides (o a b p) (o a b q) → Sides (o p q a) (o p q b) → Apart a b p q ⊎ Common a b p q
-    first (minus h k) s = inl (right h k)
-    first (plus h k) s = inl (left h k)
-    first (opp m) (minus h k) = inl (right′ h k)
-    first (opp m) (plus h k) = inl (left′ h k)
-    first (opp m) (opp k) = crossing a b p q m k (tri (o a b p) (o a b q))
+decide a b p q =
+    ⊎-elim (λ s. inl (by-edge a b p q s))
+    (λ m. ⊎-elim (λ s. inl (by-way a b p q s)) (λ k. crossing a b p q m k (tri (o a b p) (o a b q))) (sides (o p q a) (o p q b)))
+    (sides (o a b p) (o a b q))

@@ -5,11 +5,11 @@ use native.Mathlib.Omega.{arith}
 use lib.IntN.{ℤ, pos, _+ℤ_, _-ℤ_, _*ℤ_, *ℤ-comm}
 use lib.Signed.{_≤ℤ_, _<ℤ_}
 use Rattle.whole.proofs.Difference.{all, all2, all3, all4, ring}
-use Rattle.whole.proofs.Order.{antisym, cancel-eq, pos-mul, nn-mul, lt-le, le-or-lt, le-sub, mul-mono, not-lt, clash}
+use Rattle.whole.proofs.Order.{mul-swap, le-lt-trans, antisym, cancel-eq, pos-mul, nn-mul, lt-le, le-or-lt, le-sub, mul-mono, not-lt, clash}
 use Rattle.whole.proofs.Polynomial.{vars2, vars3, vars4, vars6, poly, num-val, by-ring}
 use Rattle.rules.specs.Ring.{Pt, times, On, Share}
 use Rattle.rules.specs.Good.{Fold}
-use Rattle.rules.proofs.Segment.{Apart, Common, apart, decide}
+use Rattle.rules.proofs.Segment.{Apart, Common, mean-times, apart, decide}
 use Rattle.rules.proofs.On.{on-turn}
 
 pub pt-eq : (p q : Pt) → p .x ≡ q .x → p .y ≡ q .y → p ≡ q
@@ -22,13 +22,10 @@ widen = vars6 _ λ ρ. simp poly (by-ring _ _ _ tt)
 widen′ : (m n j k c d : ℤ) → ((m *ℤ n -ℤ m *ℤ j) *ℤ c +ℤ (m *ℤ j) *ℤ d) *ℤ k ≡ m *ℤ ((n -ℤ j) *ℤ (k *ℤ c) +ℤ j *ℤ (k *ℤ d))
 widen′ = vars6 _ λ ρ. simp poly (by-ring _ _ _ tt)
 
-swap : (n m p : ℤ) → n *ℤ (m *ℤ p) ≡ m *ℤ (n *ℤ p)
-swap = vars3 _ λ ρ. simp poly (by-ring _ _ _ tt)
-
 joined : (k m n i j p a b c d : ℤ) → pos 0 <ℤ k → m *ℤ p ≡ (m -ℤ i) *ℤ (k *ℤ a) +ℤ i *ℤ (k *ℤ b) → n *ℤ p ≡ (n -ℤ j) *ℤ (k *ℤ c) +ℤ j *ℤ (k *ℤ d) → (m *ℤ n -ℤ n *ℤ i) *ℤ a +ℤ (n *ℤ i) *ℤ b ≡ (m *ℤ n -ℤ m *ℤ j) *ℤ c +ℤ (m *ℤ j) *ℤ d
 joined k m n i j p a b c d h e f =
     cancel-eq _ _ k h
-    (widen m n i k a b ∙ ap (λ z. n *ℤ z) (sym e) ∙ swap n m p ∙ ap (λ z. m *ℤ z) f ∙ sym (widen′ m n j k c d))
+    (widen m n i k a b ∙ ap (λ z. n *ℤ z) (sym e) ∙ mul-swap n m p ∙ ap (λ z. m *ℤ z) f ∙ sym (widen′ m n j k c d))
 
 part-of : (m n i : ℤ) → pos 0 <ℤ n → i ≤ℤ m → (n *ℤ i) ≤ℤ (m *ℤ n)
 part-of m n i h k = rw (*ℤ-comm n i) (mul-mono i m n k (lt-le _ _ h))
@@ -50,23 +47,20 @@ share-common a b c d s =
       y = joined (s .m) (f .m) (g .m) (f .i) (g .i) (s .p .y) (a .y) (b .y) (c .y) (d .y) (s .some) (f .y) (g .y);
     }
 
-spread : (n i a b : ℤ) → n *ℤ ((n -ℤ i) *ℤ a +ℤ i *ℤ b) ≡ (n -ℤ i) *ℤ (n *ℤ a) +ℤ i *ℤ (n *ℤ b)
-spread = vars4 _ λ ρ. simp poly (by-ring _ _ _ tt)
-
 pub common-share : (a b c d : Pt) → Common a b c d → Share a b c d
 common-share a b c d h = record {
   m = h .n;
   p = record { x = (h .n -ℤ h .i) *ℤ a .x +ℤ h .i *ℤ b .x; y = (h .n -ℤ h .i) *ℤ a .y +ℤ h .i *ℤ b .y };
   some = h .some;
-  first = record { m = h .n; i = h .i; some = h .some; low = h .i-low; high = h .i-high; x = spread (h .n) (h .i) (a .x) (b .x); y = spread (h .n) (h .i) (a .y) (b .y) };
+  first = record { m = h .n; i = h .i; some = h .some; low = h .i-low; high = h .i-high; x = mean-times (h .n) (h .i) (a .x) (b .x); y = mean-times (h .n) (h .i) (a .y) (b .y) };
   second = record {
     m = h .n;
     i = h .j;
     some = h .some;
     low = h .j-low;
     high = h .j-high;
-    x = ap (λ z. h .n *ℤ z) (h .x) ∙ spread (h .n) (h .j) (c .x) (d .x);
-    y = ap (λ z. h .n *ℤ z) (h .y) ∙ spread (h .n) (h .j) (c .y) (d .y);
+    x = ap (λ z. h .n *ℤ z) (h .x) ∙ mean-times (h .n) (h .j) (c .x) (d .x);
+    y = ap (λ z. h .n *ℤ z) (h .y) ∙ mean-times (h .n) (h .j) (c .y) (d .y);
   };
 }
 
@@ -93,7 +87,7 @@ on-once p a b h = record {
   y = h .y ∙ once (h .m) (h .i) (a .y) (b .y);
 }
 
-times-one : (b : Pt) → times (pos 1) b ≡ b
+pub times-one : (b : Pt) → times (pos 1) b ≡ b
 times-one b = pt-eq (times (pos 1) b) b (one (b .x)) (one (b .y))
   where
     one : (z : ℤ) → pos 1 *ℤ z ≡ z
@@ -128,7 +122,7 @@ balanced k m n i j p a b c h e f =
     cancel-eq _ _ k h
     (lever k m n i a b
     ∙ ap (λ z. n *ℤ z -ℤ (m *ℤ n) *ℤ (k *ℤ b)) (sym e)
-    ∙ ap (λ z. z -ℤ (m *ℤ n) *ℤ (k *ℤ b)) (swap n m p)
+    ∙ ap (λ z. z -ℤ (m *ℤ n) *ℤ (k *ℤ b)) (mul-swap n m p)
     ∙ ap (λ z. m *ℤ z -ℤ (m *ℤ n) *ℤ (k *ℤ b)) f
     ∙ sym (lever′ k m n j b c))
 
@@ -199,12 +193,9 @@ fold-ends a b c t = ⊎-elim (λ l. inr (on-turn c b a (far l))) (λ l. inl (nea
     near l = record {
       m = α;
       i = β;
-      some = past β α β₀ l;
+      some = le-lt-trans _ _ _ β₀ l;
       low = β₀;
       high = lt-le _ _ l;
       x = nearer β α (c .x) (b .x) (a .x) (sym ex);
       y = nearer β α (c .y) (b .y) (a .y) (sym ey);
     }
-      where
-        past : (β α : ℤ) → pos 0 ≤ℤ β → β <ℤ α → pos 0 <ℤ α
-        past = all2 _ λ a a′ b b′. simp ring (omega arith)

@@ -16,9 +16,9 @@ use Rattle.rules.specs.Refusal.{Passes}
 use Rattle.rules.specs.Ring.{Pt, Ring, ring, next, from, to, Neighbours, On, Share}
 use Rattle.rules.specs.Good.{Same, Folds, Meet, area, Counterclockwise, sizedCheck, shapeChecks, footprintChecks}
 use Rattle.rules.specs.Place.{OnRing, Where, on, inside, outside, Parity, Place}
-use Rattle.rules.proofs.Ring.{next-inner, next-past, next-last, next-ways, next-below}
+use Rattle.rules.proofs.Ring.{next-inner, next-past, next-last, next-ways, next-below, next-one}
 use Rattle.rules.proofs.Share.{pt-eq}
-use Rattle.rules.proofs.Crossing.{xor, flag, parity}
+use Rattle.rules.proofs.Crossing.{xor, xor-unit, flag, parity}
 use Rattle.rules.proofs.Place.{bit, parity-place, place-parity}
 
 -- the same ring from its next corner on
@@ -65,10 +65,6 @@ xor-comm true false = refl
 xor-comm false true = refl
 xor-comm false false = refl
 
-xor-unit : (a : Bool) → xor a false ≡ a
-xor-unit true = refl
-xor-unit false = refl
-
 parity-total : (f : ℕ → Bool) (n : ℕ) → parity f n ≡ total xor false xor-assoc xor-comm xor-unit f n
 unfolding parity total
 parity-total f zero = refl
@@ -98,13 +94,6 @@ place-turn r p inside h = parity-place-turn r p 1 h
 place-turn r p outside h = parity-place-turn r p 0 h
 
 -- ---- good
-next-one : (n i j : ℕ) → i < n → j < n → next n i ≡ next n j → i ≡ j
-next-one n i j h k e =
-    ⊎-elim
-    (λ a. ⊎-elim (λ b. let f = sym (a .1) ∙ e ∙ b .1 in omega arith) (λ b. absurd (let f = sym (a .1) ∙ e ∙ b .1 in omega arith)) (next-ways n j k))
-    (λ a. ⊎-elim (λ b. absurd (let f = sym (a .1) ∙ e ∙ b .1 in omega arith)) (λ b. let f = a .0 ∙ sym (b .0) in omega arith) (next-ways n j k))
-    (next-ways n i h)
-
 fold-turn : (r : Ring) (i : ℕ) → Folds (turn r) i → Folds r (next (r .size) i)
 fold-turn r i h =
     let e = ap (next (r .size)) (h .2) in

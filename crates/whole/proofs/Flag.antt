@@ -1,7 +1,7 @@
 -- Flags and what they say. Assumes nothing.
 use mathlib.Core.Path.{_≡_, refl, sym, subst}
 use mathlib.Core.Logic.{_⊎_, inl, inr}
-use mathlib.Core.Bool.{Bool, true, false, not}
+use mathlib.Core.Bool.{Bool, true, false, not, cond, _&&_, _||_}
 use Prim.Native.Nat.{ℕ, _<_, _≤_}
 use native.Mathlib.Omega.{arith}
 use lib.Dec.{T, eqb, eqb→eq, eqb-refl}
@@ -33,9 +33,33 @@ same-flag true false f g = absurd (f tt)
 same-flag false true f g = absurd (g tt)
 same-flag false false f g = refl
 
+-- what holds by the flag holds of the one that it picks
+pub by-flag : {A : Type 0} (P : A → Type 0) (t : Bool) (x y : A) → (t ≡ true → P x) → (t ≡ false → P y) → P (cond t x y)
+by-flag P true x y f g = f refl
+by-flag P false x y f g = g refl
+
 pub decided : (t : Bool) → (t ≡ true) ⊎ (t ≡ false)
 decided true = inl refl
 decided false = inr refl
+
+-- ---- two flags
+pub or-yes : (s t : Bool) → (s || t) ≡ true → (s ≡ true) ⊎ (t ≡ true)
+or-yes true t e = inl refl
+or-yes false t e = inr e
+
+pub or-left : (s t : Bool) → s ≡ true → (s || t) ≡ true
+or-left s t e = rw e
+
+pub or-right : (s t : Bool) → t ≡ true → (s || t) ≡ true
+or-right true t e = refl
+or-right false t e = e
+
+pub and-yes : (s t : Bool) → (s && t) ≡ true → (s ≡ true) × (t ≡ true)
+and-yes true t e = (refl, e)
+and-yes false t e = absurd (false-true e)
+
+pub and-both : (s t : Bool) → s ≡ true → t ≡ true → (s && t) ≡ true
+and-both s t e f = rw (e, f)
 
 -- ---- numbers
 pub eq-self : (n : ℕ) → eqb n n ≡ true

@@ -6,7 +6,7 @@ use lib.IntN.{ℤ, pos, _+ℤ_, _*ℤ_, *ℤ-comm}
 use lib.Signed.{_≤ℤ_, _<ℤ_, quotZ}
 use Rattle.whole.specs.Fraction.{Frac, _≼_, _≺_, mark, Floor}
 use Rattle.whole.proofs.Difference.{all2, ring}
-use Rattle.whole.proofs.Order.{le-or-lt, le-trans, lt-le, clash, antisym, eq-le, mul-mono, cancel, nn-mul, pos-mul}
+use Rattle.whole.proofs.Order.{mul-swap-r, le-or-lt, le-trans, lt-le, clash, antisym, eq-le, mul-mono, cancel, nn-mul, pos-mul}
 use Rattle.whole.proofs.Polynomial.{vars3, poly, by-ring}
 use Rattle.whole.proofs.Range.{quot}
 
@@ -14,14 +14,11 @@ use Rattle.whole.proofs.Range.{quot}
 pub total : (s t : Frac) → (s ≼ t) ⊎ (t ≺ s)
 total s t = le-or-lt (s .num *ℤ t .den) (t .num *ℤ s .den)
 
-swap3 : (a b c : ℤ) → (a *ℤ b) *ℤ c ≡ (a *ℤ c) *ℤ b
-swap3 = vars3 _ λ ρ. simp poly (by-ring _ _ _ tt)
-
 pub trans : (s t u : Frac) → s ≼ t → t ≼ u → s ≼ u
 trans s t u h k =
     cancel _ _ (t .den) (t .some)
-    (rw (swap3 (s .num) (u .den) (t .den), swap3 (u .num) (s .den) (t .den))
-    (le-trans _ _ _ (mul-mono _ _ (u .den) h (lt-le _ _ (u .some))) (rw (swap3 (t .num) (s .den) (u .den)) (mul-mono _ _ (s .den) k (lt-le _ _ (s .some))))))
+    (rw (mul-swap-r (s .num) (u .den) (t .den), mul-swap-r (u .num) (s .den) (t .den))
+    (le-trans _ _ _ (mul-mono _ _ (u .den) h (lt-le _ _ (u .some))) (rw (mul-swap-r (t .num) (s .den) (u .den)) (mul-mono _ _ (s .den) k (lt-le _ _ (s .some))))))
 
 pub less : (s t : Frac) → (t ≼ s → ⊥) → s ≺ t
 less s t f = ⊎-elim (λ h. absurd (f h)) (λ h. h) (total t s)

@@ -22,6 +22,9 @@ mul-assoc = all3 _ λ a a′ b b′ c c′. simp ring (omega arith)
 pub mul-swap : (a b c : ℤ) → a *ℤ (b *ℤ c) ≡ b *ℤ (a *ℤ c)
 mul-swap = all3 _ λ a a′ b b′ c c′. simp ring (omega arith)
 
+pub mul-swap-r : (a b c : ℤ) → (a *ℤ b) *ℤ c ≡ (a *ℤ c) *ℤ b
+mul-swap-r = all3 _ λ a a′ b b′ c c′. simp ring (omega arith)
+
 pub mul-mul : (a b c d : ℤ) → (a *ℤ b) *ℤ (c *ℤ d) ≡ (a *ℤ c) *ℤ (b *ℤ d)
 mul-mul = all4 _ λ a a′ b b′ c c′ d d′. simp ring (omega arith)
 
@@ -68,12 +71,47 @@ le-trans = all3 _ λ a a′ b b′ c c′. simp ring (omega arith)
 pub lt-le : (a b : ℤ) → a <ℤ b → a ≤ℤ b
 lt-le = all2 _ λ a a′ b b′. simp ring (omega arith)
 
+pub le-lt-trans : (a b c : ℤ) → a ≤ℤ b → b <ℤ c → a <ℤ c
+le-lt-trans = all3 _ λ a a′ b b′ c c′. simp ring (omega arith)
+
+pub eq-le : (a b : ℤ) → a ≡ b → a ≤ℤ b
+eq-le = all2 _ λ a a′ b b′. simp ring (omega arith)
+
+-- what is 0 has no sign
+pub neg-not : (a : ℤ) → a ≡ pos 0 → a <ℤ pos 0 → ⊥
+neg-not = all _ λ a a′. simp ring (omega arith)
+
+pub pos-not : (a : ℤ) → a ≡ pos 0 → pos 0 <ℤ a → ⊥
+pos-not = all _ λ a a′. simp ring (omega arith)
+
+-- a sign turned
+pub turn-le : (a : ℤ) → a ≤ℤ pos 0 → pos 0 ≤ℤ negℤ a
+turn-le = all _ λ a a′. simp ring (omega arith)
+
+pub turn-ge : (a : ℤ) → pos 0 ≤ℤ a → negℤ a ≤ℤ pos 0
+turn-ge = all _ λ a a′. simp ring (omega arith)
+
+pub turn-lt : (a : ℤ) → a <ℤ pos 0 → pos 0 <ℤ negℤ a
+turn-lt = all _ λ a a′. simp ring (omega arith)
+
+pub turn-gt : (a : ℤ) → pos 0 <ℤ a → negℤ a <ℤ pos 0
+turn-gt = all _ λ a a′. simp ring (omega arith)
+
 -- differences
 pub le-sub : (a b : ℤ) → a ≤ℤ b → pos 0 ≤ℤ (b -ℤ a)
 le-sub = all2 _ λ a a′ b b′. simp ring (omega arith)
 
 pub lt-sub : (a b : ℤ) → a <ℤ b → pos 0 <ℤ (b -ℤ a)
 lt-sub = all2 _ λ a a′ b b′. simp ring (omega arith)
+
+pub sub-mono : (c a b : ℤ) → a ≤ℤ b → (a -ℤ c) ≤ℤ (b -ℤ c)
+sub-mono = all3 _ λ a a′ b b′ c c′. simp ring (omega arith)
+
+pub sub-lt : (a b : ℤ) → a <ℤ b → (a -ℤ b) <ℤ pos 0
+sub-lt = all2 _ λ a a′ b b′. simp ring (omega arith)
+
+pub sub-le : (a b : ℤ) → pos 0 ≤ℤ b → (a -ℤ b) ≤ℤ a
+sub-le = all2 _ λ a a′ b b′. simp ring (omega arith)
 
 -- products
 pub nn-mul : (a b : ℤ) → pos 0 ≤ℤ a → pos 0 ≤ℤ b → pos 0 ≤ℤ (a *ℤ b)
@@ -116,20 +154,14 @@ nn-factor a b k h = not-lt _ _ (λ q. flip a b (pos-mul (pos 0 -ℤ a) b (lt-sub
     flip = all2 _ λ a a′ b b′. simp ring (omega arith)
 
 -- the other signs, each from one of `nn-mul`, `pos-mul` at negated factors
-turn : (a : ℤ) → a ≤ℤ pos 0 → pos 0 ≤ℤ negℤ a
-turn = all _ λ a a′. simp ring (omega arith)
-
-turn-lt : (a : ℤ) → a <ℤ pos 0 → pos 0 <ℤ negℤ a
-turn-lt = all _ λ a a′. simp ring (omega arith)
-
 pub pn-mul : (a b : ℤ) → a ≤ℤ pos 0 → pos 0 ≤ℤ b → (a *ℤ b) ≤ℤ pos 0
-pn-mul a b h k = flip a b (nn-mul (negℤ a) b (turn a h) k)
+pn-mul a b h k = flip a b (nn-mul (negℤ a) b (turn-le a h) k)
   where
     flip : (a b : ℤ) → pos 0 ≤ℤ (negℤ a *ℤ b) → (a *ℤ b) ≤ℤ pos 0
     flip = all2 _ λ a a′ b b′. simp ring (omega arith)
 
 pub pp-mul : (a b : ℤ) → a ≤ℤ pos 0 → b ≤ℤ pos 0 → pos 0 ≤ℤ (a *ℤ b)
-pp-mul a b h k = flip a b (nn-mul (negℤ a) (negℤ b) (turn a h) (turn b k))
+pp-mul a b h k = flip a b (nn-mul (negℤ a) (negℤ b) (turn-le a h) (turn-le b k))
   where
     flip : (a b : ℤ) → pos 0 ≤ℤ (negℤ a *ℤ negℤ b) → pos 0 ≤ℤ (a *ℤ b)
     flip = all2 _ λ a a′ b b′. simp ring (omega arith)
@@ -140,11 +172,14 @@ neg-mul a b h k = flip a b (pos-mul (negℤ a) (negℤ b) (turn-lt a h) (turn-lt
     flip : (a b : ℤ) → pos 0 <ℤ (negℤ a *ℤ negℤ b) → pos 0 <ℤ (a *ℤ b)
     flip = all2 _ λ a a′ b b′. simp ring (omega arith)
 
+pub pos-neg-mul : (a b : ℤ) → pos 0 <ℤ a → b <ℤ pos 0 → (a *ℤ b) <ℤ pos 0
+pos-neg-mul a b h k = flip a b (pos-mul a (negℤ b) h (turn-lt b k))
+  where
+    flip : (a b : ℤ) → pos 0 <ℤ (a *ℤ negℤ b) → (a *ℤ b) <ℤ pos 0
+    flip = all2 _ λ a a′ b b′. simp ring (omega arith)
+
 pub cancel-lt : (a b c : ℤ) → pos 0 <ℤ c → (a *ℤ c) <ℤ (b *ℤ c) → a <ℤ b
 cancel-lt a b c k h = not-le a b (λ q. clash _ _ h (mul-mono b a c q (lt-le _ _ k)))
-
-pub eq-le : (a b : ℤ) → a ≡ b → a ≤ℤ b
-eq-le = all2 _ λ a a′ b b′. simp ring (omega arith)
 
 pub cancel-eq : (a b c : ℤ) → pos 0 <ℤ c → a *ℤ c ≡ b *ℤ c → a ≡ b
 cancel-eq a b c k h = antisym a b (cancel a b c k (eq-le _ _ h)) (cancel b a c k (eq-le _ _ (sym h)))

@@ -10,7 +10,7 @@ use lib.Dec.{T, leb, ltb, leb→le, le→leb, ltb→lt, lt→ltb}
 use mathlib.Core.Bool.{Bool, true, false, _&&_}
 use Rattle.whole.proofs.Flag.{lt-true, lt-false}
 use lib.IntN.{ℤ, pos, negsuc, negℤ, natAbs, _+ℤ_, _-ℤ_, _*ℤ_}
-use lib.Signed.{_≤ℤ_, _<ℤ_, mag, leZ, ltZ, quotZ}
+use lib.Signed.{_≤ℤ_, _<ℤ_, mag, leZ, ltZ, quotZ, nonNeg}
 use mir.Syntax.{Width, w8, w16, w32, w64, w128}
 use mir.Val.{SFits, hbits, toZ, ofZ}
 use mir.Facts.{toZ-ofZ, sfits-lit, and-yes}
@@ -76,6 +76,7 @@ got w h e f = toZ-ofZ (record { sfits = h }) ∙ (e ∙ f)
 pub record Quot (n d : ℤ) : Type 0 where
   pub low : (quotZ n d *ℤ d) ≤ℤ n
   pub high : n <ℤ ((quotZ n d +ℤ pos 1) *ℤ d)
+  pub sign : T (nonNeg (quotZ n d))
   pub small : natAbs (quotZ n d) ≤ natAbs n
   pub nonzero : (w : Width) → 0 < ofZ w d
 
@@ -85,7 +86,7 @@ quot-ℕ n d h = let e = div-add-mod' n d in let l = mod-lt n h in omega arith
 pub quot : (n d : ℤ) → pos 0 ≤ℤ n → pos 0 <ℤ d → Quot n d
 quot (pos n) (pos d) h k =
     let p = ltb→lt 0 d (k .lt) in let q = quot-ℕ n d p in
-    record { low = record { le = le→leb _ _ (q .0) }; high = record { lt = lt→ltb _ _ (q .1) }; small = div-le-self n d; nonzero = λ w. p }
+    record { low = record { le = le→leb _ _ (q .0) }; high = record { lt = lt→ltb _ _ (q .1) }; sign = tt; small = div-le-self n d; nonzero = λ w. p }
 quot (pos n) (negsuc d) h k = absurd (k .lt)
 quot (negsuc n) d h k = absurd (h .le)
 
