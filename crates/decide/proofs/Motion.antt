@@ -17,7 +17,7 @@ use Rattle.rules.proofs.Share.{pt-eq}
 use Rattle.rules.proofs.Crossing.{flag, parity, same-parity}
 use Rattle.rules.proofs.Place.{moved, same-flags}
 use Rattle.decide.specs.Touch.{over}
-use Rattle.decide.proofs.Touch.{at, OnAt}
+use Rattle.decide.proofs.Touch.{at, OnAt, diff-le}
 use Rattle.decide.proofs.First.{OnFirst}
 
 abbrev origin : Pt
@@ -36,9 +36,6 @@ later = vars6 _ λ ρ. simp poly (by-ring _ _ _ tt)
 earlier : (n j d e m k : ℤ) → k *ℤ (n *ℤ (d *ℤ e)) -ℤ ((n -ℤ j) *ℤ (e *ℤ m) +ℤ j *ℤ (d *ℤ k)) *ℤ e ≡ ((n -ℤ j) *ℤ e) *ℤ (k *ℤ d -ℤ m *ℤ e)
 earlier = vars6 _ λ ρ. simp poly (by-ring _ _ _ tt)
 
-by-diff : (x y z : ℤ) → y -ℤ x ≡ z → pos 0 ≤ℤ z → x ≤ℤ y
-by-diff = all3 _ λ a a′ b b′ c c′. simp ring (omega arith)
-
 module _ (p w : Pt) (s t : Frac) (l : s ≼ t) where
   -- the two positions over one denominator
   abbrev start : Pt
@@ -53,8 +50,8 @@ module _ (p w : Pt) (s t : Frac) (l : s ≼ t) where
   touched : (a b : Pt) → Common (move (t .den) origin (times (s .den) a)) (move (t .den) origin (times (s .den) b)) start stop → Touched a b
   touched a b h = (
     u,
-    by-diff _ _ _ (later (h .n) (h .j) (s .den) (t .den) (s .num) (t .num)) (nn-mul _ _ (nn-mul _ _ (h .j-low) (lt-le _ _ (s .some))) (le-sub _ _ l)),
-    by-diff _ _ _ (earlier (h .n) (h .j) (s .den) (t .den) (s .num) (t .num)) (nn-mul _ _ (nn-mul _ _ (le-sub _ _ (h .j-high)) (lt-le _ _ (t .some))) (le-sub _ _ l)),
+    diff-le _ _ _ (sym (later (h .n) (h .j) (s .den) (t .den) (s .num) (t .num))) (nn-mul _ _ (nn-mul _ _ (h .j-low) (lt-le _ _ (s .some))) (le-sub _ _ l)),
+    diff-le _ _ _ (sym (earlier (h .n) (h .j) (s .den) (t .den) (s .num) (t .num))) (nn-mul _ _ (nn-mul _ _ (le-sub _ _ (h .j-high)) (lt-le _ _ (t .some))) (le-sub _ _ l)),
     record {
       m = h .n;
       i = h .i;

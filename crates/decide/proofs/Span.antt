@@ -6,13 +6,14 @@ use Prim.Native.Nat.{ℕ, _/_, _≤_, _<_}
 use native.Mathlib.Omega.{arith}
 use lib.Dec.{le→leb}
 use lib.IntN.{ℤ, pos, negsuc, negℤ, natAbs, _+ℤ_, _-ℤ_, _*ℤ_, *ℤ-comm}
-use lib.Signed.{_≤ℤ_, _<ℤ_, leZ, ltZ, quotZ}
+use lib.Signed.{_≤ℤ_, _<ℤ_, leZ, ltZ, pos-natAbs}
 use Rattle.whole.specs.Fraction.{Frac, _≼_, _≺_, mark, whole, Floor}
 use Rattle.whole.proofs.Fraction.{trans, total, apart, floor-is}
 use Rattle.whole.proofs.Difference.{all, all2, all3, all4, ring}
-use Rattle.whole.proofs.Order.{le-trans, lt-le, eq-le, clash, antisym, nn-mul, pos-mul, pn-mul, le-or-lt, nn-factor}
-use Rattle.whole.proofs.Flag.{decided, lt-true, lt-false, le-true, le-false, true-le}
+use Rattle.whole.proofs.Order.{le-trans, lt-le, eq-le, clash, antisym, nn-mul, pos-neg-mul, pn-mul, turn-lt, le-or-lt, nn-factor}
+use Rattle.whole.proofs.Flag.{by-flag, decided, lt-true, lt-false, le-true, le-false, true-le}
 use Rattle.whole.proofs.Polynomial.{vars2, vars3, vars4, poly, by-ring}
+use Rattle.whole.proofs.Range.{quot}
 use Rattle.decide.specs.Span.{Span, ticks, raise, lower, none, clip, some, first}
 
 -- positive divisors, and a begin at or after 0
@@ -42,10 +43,6 @@ pub record Clips (s u : Span) (P : Frac → Type 0) : Type 0 where
   pub keeps : (t : Frac) → In s t → P t → In u t
   pub gives : (t : Frac) → In u t → In s t × P t
 
-by-flag : (t : Bool) (u v : Span) (C : Span → Type 0) → (t ≡ true → C u) → (t ≡ false → C v) → C (cond t u v)
-by-flag true u v C f g = f refl
-by-flag false u v C f g = g refl
-
 -- ---- not before n/d, not after n/d
 module _ (s : Span) (p : Proper s) (n d : ℤ) (l : pos 0 <ℤ d) where
   abbrev bound : Frac
@@ -57,7 +54,7 @@ module _ (s : Span) (p : Proper s) (n d : ℤ) (l : pos 0 <ℤ d) where
   pub raises : Clips s (raise s n d) (λ t. bound ≼ t)
   unfolding raise
   raises =
-      by-flag (ltZ (s .lowN *ℤ d) (n *ℤ s .lowD)) _ s (λ u. Clips s u (λ t. bound ≼ t))
+      by-flag (λ u. Clips s u (λ t. bound ≼ t)) (ltZ (s .lowN *ℤ d) (n *ℤ s .lowD)) _ s
       (λ e. let h = lt-true (s .lowN *ℤ d) (n *ℤ s .lowD) e in
       record {
         proper = record { low = l; high = p .high; from = past-zero (s .lowN) d n (s .lowD) (p .from) (p .low) h l };
@@ -73,7 +70,7 @@ module _ (s : Span) (p : Proper s) (n d : ℤ) (l : pos 0 <ℤ d) where
   pub lowers : Clips s (lower s n d) (λ t. t ≼ bound)
   unfolding lower
   lowers =
-      by-flag (ltZ (n *ℤ s .highD) (s .highN *ℤ d)) _ s (λ u. Clips s u (λ t. t ≼ bound))
+      by-flag (λ u. Clips s u (λ t. t ≼ bound)) (ltZ (n *ℤ s .highD) (s .highN *ℤ d)) _ s
       (λ e. let h = lt-true (n *ℤ s .highD) (s .highN *ℤ d) e in
       record {
         proper = record { low = p .low; high = l; from = p .from };
@@ -102,9 +99,6 @@ fall = all4 _ λ a a′ b b′ c c′ d d′. simp ring (omega arith)
 fall⁻¹ : (α β n d : ℤ) → pos 0 ≤ℤ (α *ℤ d +ℤ β *ℤ n) → (n *ℤ negℤ β) ≤ℤ (α *ℤ d)
 fall⁻¹ = all4 _ λ a a′ b b′ c c′ d d′. simp ring (omega arith)
 
-turn-lt : (β : ℤ) → β <ℤ pos 0 → pos 0 <ℤ negℤ β
-turn-lt = all _ λ a a′. simp ring (omega arith)
-
 -- no slope: the inequality is one of α
 flat : (α n d : ℤ) → pos 0 ≤ℤ (α *ℤ d) → pos 0 ≤ℤ (α *ℤ d +ℤ pos 0 *ℤ n)
 flat α n d h = go (α *ℤ d) n h
@@ -119,13 +113,7 @@ flat⁻¹ α n d h = go (α *ℤ d) n h
     go = all2 _ λ a a′ b b′. simp ring (omega arith)
 
 neg-mul : (α d : ℤ) → α <ℤ pos 0 → pos 0 <ℤ d → pos 0 ≤ℤ (α *ℤ d) → ⊥
-neg-mul α d h k q = go (negℤ α *ℤ d) (α *ℤ d) (flip α d) (pos-mul (negℤ α) d (turn-lt α h) k) q
-  where
-    flip : (α d : ℤ) → negℤ α *ℤ d ≡ negℤ (α *ℤ d)
-    flip = vars2 _ λ ρ. simp poly (by-ring _ _ _ tt)
-
-    go : (x y : ℤ) → x ≡ negℤ y → pos 0 <ℤ x → pos 0 ≤ℤ y → ⊥
-    go = all2 _ λ a a′ b b′. simp ring (omega arith)
+neg-mul α d h k q = clash _ _ (pos-neg-mul d α k h) (rw (*ℤ-comm d α) q)
 
 -- the empty span holds nothing
 nothing : (s : Span) → Proper s → (t : Frac) → In (none s) t → ⊥
@@ -152,12 +140,12 @@ stays s p α h = record { proper = p; keeps = λ t i q. i; gives = λ t i. (i, f
 pub clips : (s : Span) → Proper s → (α β : ℤ) → Clips s (clip s α β) (Holds α β)
 unfolding clip
 clips s p α β =
-    by-flag (ltZ (pos 0) β) _ _ (λ u. Clips s u (Holds α β))
+    by-flag (λ u. Clips s u (Holds α β)) (ltZ (pos 0) β) _ _
     (λ e. turned (raises s p (negℤ α) β (lt-true (pos 0) β e)) (λ t. rise α β (t .num) (t .den)) (λ t. rise⁻¹ α β (t .num) (t .den)))
-    (λ e. by-flag (ltZ β (pos 0)) _ _ (λ u. Clips s u (Holds α β))
+    (λ e. by-flag (λ u. Clips s u (Holds α β)) (ltZ β (pos 0)) _ _
     (λ f. turned (lowers s p α (negℤ β) (turn-lt β (lt-true β (pos 0) f))) (λ t. fall α β (t .num) (t .den)) (λ t. fall⁻¹ α β (t .num) (t .den)))
     (λ f. let z = antisym (pos 0) β (lt-false β (pos 0) f) (lt-false (pos 0) β e) in
-    by-flag (ltZ α (pos 0)) _ _ (λ u. Clips s u (Holds α β)) (λ g. subst (λ (b : ℤ). Clips s (none s) (Holds α b)) z (nones s p α (lt-true α (pos 0) g))) (λ g. subst (λ (b : ℤ). Clips s s (Holds α b)) z (stays s p α (lt-false α (pos 0) g)))))
+    by-flag (λ u. Clips s u (Holds α β)) (ltZ α (pos 0)) _ _ (λ g. subst (λ (b : ℤ). Clips s (none s) (Holds α b)) z (nones s p α (lt-true α (pos 0) g))) (λ g. subst (λ (b : ℤ). Clips s s (Holds α b)) z (stays s p α (lt-false α (pos 0) g)))))
 
 -- two in a row
 pub both : {s u v : Span} {P Q : Frac → Type 0} → Clips s u P → Clips u v Q → Clips s v (λ t. P t × Q t)
@@ -175,17 +163,8 @@ pub no-moment : (s : Span) → Proper s → some s ≡ false → (t : Frac) → 
 no-moment s p e t i = apart (end s p) (begin s p) (le-false (s .lowN *ℤ s .highD) (s .highN *ℤ s .lowD) e) (trans (begin s p) t (end s p) (i .after) (i .until))
 
 -- its mark
-as-mark : (q : ℤ) → pos 0 ≤ℤ q → pos (natAbs q) ≡ q
-as-mark (pos n) h = refl
-as-mark (negsuc n) h = absurd (h .le)
-
 pub first-mark : (s : Span) (p : Proper s) → Floor (pos (first s)) (begin s p)
-first-mark s p = subst (λ (k : ℤ). Floor k (begin s p)) (sym (as-mark _ (quot-nn _ _ (nn-mul (pos 256) (s .lowN) (record { le = tt }) (p .from)) (p .low)))) (floor-is (begin s p) (p .from))
-  where
-    quot-nn : (n d : ℤ) → pos 0 ≤ℤ n → pos 0 <ℤ d → pos 0 ≤ℤ quotZ n d
-    quot-nn (pos n) (pos d) h k = record { le = le→leb 0 (n / d) (omega arith) }
-    quot-nn (pos n) (negsuc d) h k = absurd (k .lt)
-    quot-nn (negsuc n) d h k = absurd (h .le)
+first-mark s p = subst (λ (k : ℤ). Floor k (begin s p)) (sym (pos-natAbs _ (quot _ _ (nn-mul (pos 256) (s .lowN) (record { le = tt }) (p .from)) (p .low) .sign))) (floor-is (begin s p) (p .from))
 
 -- a span is convex
 pub between : (s : Span) (p : Proper s) (a t b : Frac) → In s a → In s b → a ≼ t → t ≼ b → In s t

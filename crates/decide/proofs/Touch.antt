@@ -5,18 +5,17 @@ use mathlib.Core.Bool.{Bool, true, false, cond, _&&_, _||_}
 use Prim.Native.Nat.{ℕ, zero, suc, min, _≤_, _<_}
 use native.Mathlib.Omega.{arith}
 use lib.Dec.{T, leb→le}
-use mir.Facts.{and-yes, or-yes}
 use lib.IntN.{ℤ, pos, negℤ, _+ℤ_, _-ℤ_, _*ℤ_}
 use lib.Signed.{_≤ℤ_, _<ℤ_, leZ, ltZ}
 use Rattle.whole.specs.Fraction.{Frac, _≼_, _≺_, mark, whole, Floor}
 use Rattle.whole.proofs.Fraction.{trans, total, floor-mono}
 use Rattle.whole.proofs.Difference.{all, all2, all3, all4, ring}
-use Rattle.whole.proofs.Order.{nn-mul, pos-mul, nn-factor, mul-mono, cancel, lt-le, clash, ℕ-or}
-use Rattle.whole.proofs.Flag.{same-flag, is-true, yes-of, decided}
+use Rattle.whole.proofs.Order.{neg-not, pos-not, nn-mul, pos-mul, pos-neg-mul, nn-factor, mul-mono, cancel, lt-le, clash, ℕ-or}
+use Rattle.whole.proofs.Flag.{same-flag, or-yes, and-yes, lt-true}
 use Rattle.whole.proofs.Polynomial.{vars3, vars4, vars5, vars6, vars9, vars10, poly, num-val, by-ring}
 use Rattle.rules.specs.Ring.{Pt, times, Ring, from, to, On}
 use Rattle.rules.specs.Contact.{along}
-use Rattle.rules.proofs.Segment.{o, side, mix, mix⁺}
+use Rattle.rules.proofs.Segment.{o, side, mix, mix⁺, Signs, minus, plus}
 use Rattle.decide.specs.Span.{Span, clip, some, first}
 use Rattle.rules.specs.Verdict.{NONE}
 use Rattle.decide.specs.Touch.{least, most, swing, across, sameSide, onLine, within, onEdge, touch, touches}
@@ -122,6 +121,12 @@ module _ (p w a b : Pt) where
       turned (both (both (both c1 c2) (both c3 c4)) (both c5 c6)) (λ t h. boxed-on _ _ _ (six-boxed t h)) (λ t h. boxed-six t (on-boxed _ _ _ h))
 
 -- ---- an edge on one side of the line of motion is never touched
+pub same-yes : (u v : ℤ) → sameSide u v ≡ true → Signs u v
+same-yes u v e =
+    ⊎-elim (λ f. let g = and-yes (ltZ u (pos 0)) (ltZ v (pos 0)) f in minus (lt-true _ _ (g .0)) (lt-true _ _ (g .1)))
+    (λ f. let g = and-yes (ltZ (pos 0) u) (ltZ (pos 0) v) f in plus (lt-true _ _ (g .0)) (lt-true _ _ (g .1)))
+    (or-yes (ltZ u (pos 0) && ltZ v (pos 0)) (ltZ (pos 0) u && ltZ (pos 0) v) e)
+
 spread : (d m i u v a b f g : ℤ) → d *ℤ ((m -ℤ i) *ℤ (u *ℤ a -ℤ v *ℤ b) +ℤ i *ℤ (u *ℤ f -ℤ v *ℤ g)) ≡ u *ℤ (d *ℤ ((m -ℤ i) *ℤ a +ℤ i *ℤ f)) -ℤ v *ℤ (d *ℤ ((m -ℤ i) *ℤ b +ℤ i *ℤ g))
 spread = vars9 _ λ ρ. simp poly (by-ring _ _ _ tt)
 
@@ -145,25 +150,9 @@ module _ (p w a b : Pt) where
       ∙ ap (λ z. w .x *ℤ ((h .m *ℤ t .num) *ℤ w .y) -ℤ w .y *ℤ z) (travelled (t .den) (t .num) (h .m) (h .i) (a .x) (b .x) (p .x) (w .x) (h .x))
       ∙ along-itself (h .m *ℤ t .num) (w .x) (w .y)
 
-  no-sum : (d z : ℤ) → pos 0 <ℤ d → d *ℤ z ≡ pos 0 → (pos 0 <ℤ z) ⊎ (z <ℤ pos 0) → ⊥
-  no-sum d z l e (inl h) = go (d *ℤ z) e (pos-mul d z l h)
-    where
-      go : (x : ℤ) → x ≡ pos 0 → pos 0 <ℤ x → ⊥
-      go = all _ λ a a′. simp ring (omega arith)
-  no-sum d z l e (inr h) = go (d *ℤ negℤ z) (d *ℤ z) (flip d z) e (pos-mul d (negℤ z) l (turn z h))
-    where
-      turn : (z : ℤ) → z <ℤ pos 0 → pos 0 <ℤ negℤ z
-      turn = all _ λ a a′. simp ring (omega arith)
-
-      flip : (d z : ℤ) → d *ℤ negℤ z ≡ negℤ (d *ℤ z)
-      flip = all2 _ λ a a′ b b′. simp ring (omega arith)
-
-      go : (x y : ℤ) → x ≡ negℤ y → y ≡ pos 0 → pos 0 <ℤ x → ⊥
-      go = all2 _ λ a a′ b b′. simp ring (omega arith)
-
   pub beside : sameSide (across p w a) (across p w b) ≡ true → (t : Frac) → OnAt p w a b t → ⊥
-  beside e t h =
-      ⊎-elim
-      (λ q. let k = and-yes (ltZ (across p w a) (pos 0)) (ltZ (across p w b) (pos 0)) q in no-sum (t .den) ((h .m -ℤ h .i) *ℤ across p w a +ℤ h .i *ℤ across p w b) (t .some) (balance t h) (inr (mix (h .m) (h .i) _ _ (h .some) (h .low) (h .high) (record { lt = k .0 }) (record { lt = k .1 }))))
-      (λ q. let k = and-yes (ltZ (pos 0) (across p w a)) (ltZ (pos 0) (across p w b)) q in no-sum (t .den) ((h .m -ℤ h .i) *ℤ across p w a +ℤ h .i *ℤ across p w b) (t .some) (balance t h) (inl (mix⁺ (h .m) (h .i) _ _ (h .some) (h .low) (h .high) (record { lt = k .0 }) (record { lt = k .1 }))))
-      (or-yes (ltZ (across p w a) (pos 0) && ltZ (across p w b) (pos 0)) (ltZ (pos 0) (across p w a) && ltZ (pos 0) (across p w b)) (yes-of (sameSide (across p w a) (across p w b)) e))
+  beside e t h = go (same-yes _ _ e)
+    where
+      go : Signs (across p w a) (across p w b) → ⊥
+      go (minus i k) = neg-not _ (balance t h) (pos-neg-mul (t .den) _ (t .some) (mix (h .m) (h .i) _ _ (h .some) (h .low) (h .high) i k))
+      go (plus i k) = pos-not _ (balance t h) (pos-mul (t .den) _ (t .some) (mix⁺ (h .m) (h .i) _ _ (h .some) (h .low) (h .high) i k))

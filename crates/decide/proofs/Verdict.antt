@@ -17,7 +17,7 @@ use Rattle.rules.specs.Place.{Where, on, inside, outside, Place}
 use Rattle.rules.specs.Contact.{Moment, InBand, Contact}
 use Rattle.rules.specs.Verdict.{Mark, Verdict, NONE, answer}
 use Rattle.rules.proofs.Crossing.{flag, parity}
-use Rattle.rules.proofs.Place.{bit, place-parity}
+use Rattle.rules.proofs.Place.{bit, place-parity, zero-one}
 use Rattle.rules.proofs.Verdict.{mark-answers}
 use Rattle.rules.proofs.Contact.{place-relative, relative-place}
 use Rattle.decide.specs.Span.{Span, ticks, clip, some, first}
@@ -97,13 +97,10 @@ module _ (r : Run) (k : Piece) where
       touched : Here t on → (u : Frac) × In span u × (u ≼ t) × OnFirst corners (pointOf r) (motion r k) (corners .size) u
       touched p = (t, j, eq-le _ _ refl, (p .edge, p .below, p .on))
 
-      clash : {n : ℕ} → 0 ≡ n → 1 ≡ n → ⊥
-      clash e g = omega arith
-
       crossed : Here t inside → (u : Frac) × In span u × (u ≼ t) × OnFirst corners (pointOf r) (motion r k) (corners .size) u
       crossed p =
           ⊎-elim
-          (λ e. absurd (clash (place-parity (over (s .den) corners) (at (pointOf r) (motion r k) s) 0 h ∙ ap bit e) (place-parity (over (t .den) corners) (at (pointOf r) (motion r k) t) 1 p)))
+          (λ e. absurd (zero-one (place-parity (over (s .den) corners) (at (pointOf r) (motion r k) s) 0 h ∙ ap bit e) (place-parity (over (t .den) corners) (at (pointOf r) (motion r k) t) 1 p)))
           (λ x. (x .0, between span proper s (x .0) t i j (x .1) (x .2), x .2, x .3))
           (parity-or-touch (pointOf r) (motion r k) s t (f t j) corners)
 

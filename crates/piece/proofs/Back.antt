@@ -26,9 +26,3 @@ next-back n i h =
     ⊎-elim (λ (z : i ≤ 0). let e : i ≡ 0 = omega arith in let b = back-last n in let q : back n i ≡ n - 1 = ap (back n) e ∙ b in ⊎-elim (λ w. absurd (omega arith)) (λ w. w .1 ∙ sym e) (next-ways n (back n i) (back-below n i h)))
     (λ (z : 0 < i). let b = back-inner n i z in ⊎-elim (λ w. omega arith) (λ w. absurd (omega arith)) (next-ways n (back n i) (back-below n i h)))
     (ℕ-or i 0)
-
--- at most one number has i for its next
-pub next-one : (n h k : ℕ) → h < n → k < n → next n h ≡ next n k → h ≡ k
-next-one n h k a b e =
-    ⊎-elim (λ w. ⊎-elim (λ v. omega arith) (λ v. absurd (omega arith)) (next-ways n k b)) (λ w. ⊎-elim (λ v. absurd (omega arith)) (λ v. omega arith) (next-ways n k b))
-    (next-ways n h a)

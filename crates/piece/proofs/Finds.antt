@@ -11,6 +11,7 @@ use Rattle.whole.proofs.Order.{clash}
 use Rattle.rules.specs.Ring.{Pt, Ring, ring, from, to, On}
 use Rattle.rules.specs.Refusal.{First, Passes, Fault, each, refuse}
 use Rattle.rules.specs.Good.{Same, Folds, Meet, FirstMeet, area, bandNumber, Sized, sizedCheck, bandCheck, shapeChecks, footprintChecks, pieceChecks}
+use Rattle.rules.proofs.Ring.{next-one}
 use Rattle.rules.proofs.Share.{fold-ends, end-folds}
 use Rattle.rules.specs.Reach.{Piece, Reach}
 use Rattle.rules.specs.Place.{pointNumber, placeChecks}
@@ -23,7 +24,7 @@ use Rattle.piece.specs.Decide.{Seeks}
 use Rattle.piece.specs.Numbers.{pieceOf}
 use Rattle.piece.specs.Shape.{Holds, Corner, Stray, back, Bend, Drawing}
 use Rattle.piece.proofs.Outline.{corner-at}
-use Rattle.piece.proofs.Back.{back-below, next-back, next-one}
+use Rattle.piece.proofs.Back.{back-below, next-back}
 use Rattle.piece.proofs.Decide.{none-found, first-found, seeks-map}
 
 -- ---- folds

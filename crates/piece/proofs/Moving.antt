@@ -5,36 +5,23 @@ use Prim.Native.Nat.{ℕ, _≤_}
 use native.Mathlib.Omega.{arith}
 use lib.Dec.{T, leb→le}
 use lib.IntN.{ℤ, pos, negsuc, negℤ, natAbs, _-ℤ_, _*ℤ_}
-use lib.Signed.{_≤ℤ_, _<ℤ_, ltZ, quotZ, nonNeg}
+use lib.Signed.{_≤ℤ_, _<ℤ_, ltZ, quotZ, nonNeg, <ℤ-≤ℤ-trans}
 use mir.Syntax.{w64}
 use mir.Val.{SFits, toZ, ofZ}
 use mir.Facts.{toZ-ofZ}
 use Rattle.whole.proofs.Difference.{all, all2, all3, ring}
-use Rattle.whole.proofs.Order.{nn-mul, mul-mono, cancel, cancel-lt, le-trans, lt-le, nn-factor}
-use Rattle.whole.proofs.Flag.{lt-true, le-true}
+use Rattle.whole.proofs.Order.{mul-swap-r, turn-lt, nn-mul, mul-mono, cancel, cancel-lt, le-trans, lt-le, nn-factor}
+use Rattle.whole.proofs.Flag.{by-flag, lt-true, le-true}
 use Rattle.whole.proofs.Polynomial.{vars3, poly, by-ring}
 use Rattle.whole.proofs.Range.{fits, abs-mul-le, abs-neg, Quot, quot}
 use Rattle.decide.specs.Span.{Span, raise, lower, none, clip, some, first}
 use Rattle.piece.specs.Moving.{Tame, Small, Bounds, Slope, Crossed, MarkSteps}
 
-pick : {A : Type 0} (P : A → Type 0) (t : Bool) (x y : A) → (t ≡ true → P x) → (t ≡ false → P y) → P (cond t x y)
-pick P true x y f g = f refl
-pick P false x y f g = g refl
-
-lt-then : (a b c : ℤ) → a <ℤ b → b ≤ℤ c → a <ℤ c
-lt-then = all3 _ λ a a′ b b′ c c′. simp ring (omega arith)
-
-swap : (a b c : ℤ) → (a *ℤ b) *ℤ c ≡ (a *ℤ c) *ℤ b
-swap = vars3 _ λ ρ. simp poly (by-ring _ _ _ tt)
-
-turn : (b : ℤ) → b <ℤ pos 0 → pos 0 <ℤ negℤ b
-turn = all _ λ a a′. simp ring (omega arith)
-
 module _ (N D : ℕ) (s : Span) (h : Tame N D s) where
   pub tame-raise : (n d : ℤ) → pos 0 <ℤ d → natAbs n ≤ N → natAbs d ≤ D → Tame N D (raise s n d)
   unfolding raise
   tame-raise n d l i j =
-      pick (Tame N D) (ltZ (s .lowN *ℤ d) (n *ℤ s .lowD)) _ _
+      by-flag (Tame N D) (ltZ (s .lowN *ℤ d) (n *ℤ s .lowD)) _ _
       (λ e. record {
         begin = nn-factor n (s .lowD) (h .low) (le-trans _ _ _ (nn-mul (s .lowN) d (h .begin) (lt-le _ _ l)) (lt-le _ _ (lt-true _ _ e)));
         end = h .end;
@@ -50,11 +37,11 @@ module _ (N D : ℕ) (s : Span) (h : Tame N D s) where
   pub tame-lower : (n d : ℤ) → pos 0 <ℤ d → natAbs n ≤ N → natAbs d ≤ D → Tame N D (lower s n d)
   unfolding lower
   tame-lower n d l i j =
-      pick (Tame N D) (ltZ (n *ℤ s .highD) (s .highN *ℤ d)) _ _
+      by-flag (Tame N D) (ltZ (n *ℤ s .highD) (s .highN *ℤ d)) _ _
       (λ e. record {
         begin = h .begin;
         end = lt-le _ _ (cancel-lt n (pos 4096 *ℤ d) (s .highD) (h .high)
-            (lt-then _ _ _ (lt-true _ _ e) (rw (swap (pos 4096) d (s .highD)) (mul-mono (s .highN) (pos 4096 *ℤ s .highD) d (h .end) (lt-le _ _ l)))));
+            (<ℤ-≤ℤ-trans (lt-true _ _ e) (rw (mul-swap-r (pos 4096) d (s .highD)) (mul-mono (s .highN) (pos 4096 *ℤ s .highD) d (h .end) (lt-le _ _ l)))));
         low = h .low;
         high = l;
         lowN = h .lowN;
@@ -71,11 +58,11 @@ module _ (N D : ℕ) (s : Span) (h : Tame N D s) where
   pub tame-clip : (a b : ℤ) → 1 ≤ N → 1 ≤ D → Bounds N D a b → Tame N D (clip s a b)
   unfolding clip
   tame-clip a b i j k =
-      pick (Tame N D) (ltZ (pos 0) b) _ _
+      by-flag (Tame N D) (ltZ (pos 0) b) _ _
       (λ e. tame-raise (negℤ a) b (lt-true _ _ e) (rw (abs-neg a) (k .base)) (k .slope))
-      (λ e. pick (Tame N D) (ltZ b (pos 0)) _ _
-      (λ e. tame-lower a (negℤ b) (turn b (lt-true _ _ e)) (k .base) (rw (abs-neg b) (k .slope)))
-      (λ e. pick (Tame N D) (ltZ a (pos 0)) _ _ (λ e. tame-none i j) (λ e. h)))
+      (λ e. by-flag (Tame N D) (ltZ b (pos 0)) _ _
+      (λ e. tame-lower a (negℤ b) (turn-lt b (lt-true _ _ e)) (k .base) (rw (abs-neg b) (k .slope)))
+      (λ e. by-flag (Tame N D) (ltZ a (pos 0)) _ _ (λ e. tame-none i j) (λ e. h)))
 
   pub wider : (N′ D′ : ℕ) → N ≤ N′ → D ≤ D′ → Tame N′ D′ s
   wider N′ D′ i j = record { begin = h .begin; end = h .end; low = h .low; high = h .high; lowN = omega (arith, h .lowN); lowD = omega (arith, h .lowD); highN = omega (arith, h .highN); highD = omega (arith, h .highD) }
@@ -135,15 +122,10 @@ some-fits s h = (tame-fits (s .lowN) (s .highD) (h .lowN) (h .highD), tame-fits 
 begin-by : (s : Span) → Small s → some s ≡ true → s .lowN ≤ℤ (pos 4096 *ℤ s .lowD)
 begin-by s h e =
     cancel _ _ (s .highD) (h .high)
-    (le-trans _ _ _ (le-true _ _ e) (rw (swap (pos 4096) (s .lowD) (s .highD)) (mul-mono (s .highN) (pos 4096 *ℤ s .highD) (s .lowD) (h .end) (lt-le _ _ (h .low)))))
+    (le-trans _ _ _ (le-true _ _ e) (rw (mul-swap-r (pos 4096) (s .lowD) (s .highD)) (mul-mono (s .highN) (pos 4096 *ℤ s .highD) (s .lowD) (h .end) (lt-le _ _ (h .low)))))
 
 scale-up : (n d : ℤ) → n ≤ℤ (pos 4096 *ℤ d) → (pos 256 *ℤ n) ≤ℤ (pos 1048576 *ℤ d)
 scale-up = all2 _ λ a a′ b b′. simp ring (omega arith)
-
-quot-sign : (n d : ℤ) → pos 0 ≤ℤ n → pos 0 <ℤ d → T (nonNeg (quotZ n d))
-quot-sign (pos n) (pos d) h k = tt
-quot-sign (pos n) (negsuc d) h k = absurd (k .lt)
-quot-sign (negsuc n) d h k = absurd (h .le)
 
 below : (B : ℕ) (z : ℤ) → T (nonNeg z) → z ≤ℤ pos B → natAbs z ≤ B
 below B (pos n) h k = leb→le n B (k .le)
@@ -157,7 +139,7 @@ module _ (s : Span) (h : Small s) (e : some s ≡ true) where
   parts = quot (pos 256 *ℤ s .lowN) (s .lowD) from-0 (h .low)
 
   pub mark-sign : T (nonNeg (quotZ (pos 256 *ℤ s .lowN) (s .lowD)))
-  mark-sign = quot-sign (pos 256 *ℤ s .lowN) (s .lowD) from-0 (h .low)
+  mark-sign = parts .sign
 
   pub mark-most : first s ≤ 1048576
   mark-most =

@@ -8,10 +8,11 @@ use native.Mathlib.Numerals.{add-one}
 use lib.IntN.{ℤ, pos, _*ℤ_}
 use Rattle.whole.proofs.Difference.{all, ring}
 use Rattle.whole.proofs.Order.{ℕ-or}
+use Rattle.whole.proofs.Flag.{or-right}
 use Rattle.rules.specs.Ring.{Pt, times, Ring, from, to}
 use Rattle.rules.specs.Place.{on, inside, outside}
 use Rattle.rules.proofs.Crossing.{xor, flag, parity}
-use Rattle.rules.proofs.Share.{pt-eq}
+use Rattle.rules.proofs.Share.{times-one}
 use Rattle.decide.specs.Touch.{isOn, onSome, place, over}
 
 module _ (r : Ring) (p : Pt) where
@@ -41,11 +42,7 @@ module _ (r : Ring) (p : Pt) where
 
   pub on-place : (i : ℕ) → i < r .size → isOn p (from r i) (to r i) ≡ true → on ≡ place r p
   unfolding onSome place
-  on-place i h e = rw (some-later (suc i) (r .size) h (last (onSome r p i) (isOn p (from r i) (to r i)) e))
-    where
-      last : (s t : Bool) → t ≡ true → (s || t) ≡ true
-      last true t e = refl
-      last false t e = e
+  on-place i h e = rw (some-later (suc i) (r .size) h (or-right (onSome r p i) (isOn p (from r i) (to r i)) e))
 
   pub in-place : Scan (r .size) (r .size) true → inside ≡ place r p
   unfolding place
@@ -57,10 +54,4 @@ module _ (r : Ring) (p : Pt) where
 
 -- over 1 the corners are themselves
 pub over-one : (r : Ring) → over (pos 1) r ≡ r
-over-one r = λ j. record { size = r .size; at = λ i. one-pt (r .at i) j }
-  where
-    one : (z : ℤ) → pos 1 *ℤ z ≡ z
-    one = all _ λ a a′. simp ring (omega arith)
-
-    one-pt : (q : Pt) → times (pos 1) q ≡ q
-    one-pt q = pt-eq (times (pos 1) q) q (one (q .x)) (one (q .y))
+over-one r = λ j. record { size = r .size; at = λ i. times-one (r .at i) j }

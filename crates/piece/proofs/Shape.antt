@@ -4,39 +4,22 @@ use mathlib.Core.Bool.{Bool, true, false, not, _&&_, _||_}
 use mathlib.Core.Logic.{_⊎_, inl, inr, ⊎-elim}
 use native.Mathlib.Omega.{arith}
 use lib.IntN.{ℤ, pos}
-use lib.Signed.{_≤ℤ_, _<ℤ_, leZ, ltZ}
+use lib.Signed.{_<ℤ_, leZ, ltZ, ≤ℤ-refl}
 use Rattle.whole.proofs.Difference.{all, ring}
 use Rattle.whole.proofs.Order.{antisym}
 use Rattle.whole.proofs.Polynomial.{vars4, vars6, poly, num-val, by-ring}
-use Rattle.whole.proofs.Flag.{false-true, lt-true, le-true, true-lt, true-le}
+use Rattle.whole.proofs.Flag.{false-true, or-yes, or-left, or-right, and-yes, and-both, lt-true, le-true, true-lt, true-le}
 use Rattle.rules.specs.Ring.{Pt, On, Share}
-use Rattle.rules.proofs.Segment.{o, side, Apart, right, left, right′, left′, below, above, before, behind}
+use Rattle.rules.proofs.Segment.{o, side, no-line, Apart, right, left, right′, left′, below, above, before, behind, Sep, ahead, after, by-x, by-y, by-edge, by-way}
 use Rattle.rules.proofs.On.{on-or-off, off-not-on}
 use Rattle.rules.proofs.Share.{pt-eq, share-or-apart, apart-not-share}
 use Rattle.decide.specs.Touch.{least, most, sameSide}
+use Rattle.decide.proofs.Touch.{same-yes}
 use Rattle.decide.proofs.Place.{least-low, most-high, low-least, high-most}
 use Rattle.piece.specs.Decide.{Decides}
 use Rattle.piece.specs.Shape.{equal, parted, boxes, aside, shares, bends}
 
 -- ---- flags
-pub or-yes : (s t : Bool) → (s || t) ≡ true → (s ≡ true) ⊎ (t ≡ true)
-or-yes true t e = inl refl
-or-yes false t e = inr e
-
-pub or-left : (s t : Bool) → s ≡ true → (s || t) ≡ true
-or-left s t e = rw e
-
-pub or-right : (s t : Bool) → t ≡ true → (s || t) ≡ true
-or-right true t e = refl
-or-right false t e = e
-
-pub and-yes : (s t : Bool) → (s && t) ≡ true → (s ≡ true) × (t ≡ true)
-and-yes true t e = (refl, e)
-and-yes false t e = absurd (false-true e)
-
-pub and-both : (s t : Bool) → s ≡ true → t ≡ true → (s && t) ≡ true
-and-both s t e f = rw (e, f)
-
 -- P where the flag is set, and set where P
 pub decides : (P : Type 0) (t : Bool) → (t ≡ true → P) → (P → t ≡ true) → Decides P t
 decides P true f g = f refl
@@ -47,18 +30,14 @@ decides-not P true f g = f refl
 decides-not P false f g = g refl
 
 -- ---- ranges
-data Split (a b c d : ℤ) : Type 0 where
-  under : c <ℤ a → c <ℤ b → d <ℤ a → d <ℤ b → Split a b c d
-  over : a <ℤ c → b <ℤ c → a <ℤ d → b <ℤ d → Split a b c d
-
-parted-yes : (a b c d : ℤ) → parted a b c d ≡ true → Split a b c d
+parted-yes : (a b c d : ℤ) → parted a b c d ≡ true → Sep a b c d
 parted-yes a b c d e = ⊎-elim (λ f. first (most-high (least a b) c d (lt-true _ _ f))) (λ f. second (most-high (least c d) a b (lt-true _ _ f))) (or-yes (ltZ (most c d) (least a b)) (ltZ (most a b) (least c d)) e)
   where
-    first : (c <ℤ least a b) × (d <ℤ least a b) → Split a b c d
-    first h = let k = least-low c a b (h .0) in let l = least-low d a b (h .1) in under (k .0) (k .1) (l .0) (l .1)
+    first : (c <ℤ least a b) × (d <ℤ least a b) → Sep a b c d
+    first h = let k = least-low c a b (h .0) in let l = least-low d a b (h .1) in ahead (k .0) (k .1) (l .0) (l .1)
 
-    second : (a <ℤ least c d) × (b <ℤ least c d) → Split a b c d
-    second h = let k = least-low a c d (h .0) in let l = least-low b c d (h .1) in over (k .0) (l .0) (k .1) (l .1)
+    second : (a <ℤ least c d) × (b <ℤ least c d) → Sep a b c d
+    second h = let k = least-low a c d (h .0) in let l = least-low b c d (h .1) in after (k .0) (l .0) (k .1) (l .1)
 
 under-parted : (a b c d : ℤ) → c <ℤ a → c <ℤ b → d <ℤ a → d <ℤ b → parted a b c d ≡ true
 under-parted a b c d h i j k = or-left (ltZ (most c d) (least a b)) (ltZ (most a b) (least c d)) (true-lt _ _ (high-most (least a b) c d (low-least c a b h i) (low-least d a b j k)))
@@ -67,16 +46,6 @@ over-parted : (a b c d : ℤ) → a <ℤ c → b <ℤ c → a <ℤ d → b <ℤ 
 over-parted a b c d h i j k = or-right (ltZ (most c d) (least a b)) (ltZ (most a b) (least c d)) (true-lt _ _ (high-most (least c d) a b (low-least a c d h j) (low-least b c d i k)))
 
 -- ---- signs
-data Signs (u v : ℤ) : Type 0 where
-  minus : u <ℤ pos 0 → v <ℤ pos 0 → Signs u v
-  plus : pos 0 <ℤ u → pos 0 <ℤ v → Signs u v
-
-same-yes : (u v : ℤ) → sameSide u v ≡ true → Signs u v
-same-yes u v e =
-    ⊎-elim (λ f. let g = and-yes (ltZ u (pos 0)) (ltZ v (pos 0)) f in minus (lt-true _ _ (g .0)) (lt-true _ _ (g .1)))
-    (λ f. let g = and-yes (ltZ (pos 0) u) (ltZ (pos 0) v) f in plus (lt-true _ _ (g .0)) (lt-true _ _ (g .1)))
-    (or-yes (ltZ u (pos 0) && ltZ v (pos 0)) (ltZ (pos 0) u && ltZ (pos 0) v) e)
-
 same-minus : (u v : ℤ) → u <ℤ pos 0 → v <ℤ pos 0 → sameSide u v ≡ true
 same-minus u v h k = or-left _ _ (and-both _ _ (true-lt u (pos 0) h) (true-lt v (pos 0) k))
 
@@ -86,15 +55,7 @@ same-plus u v h k = or-right (ltZ u (pos 0) && ltZ v (pos 0)) (ltZ (pos 0) u && 
 -- ---- two edges
 boxes-yes : (a b c d : Pt) → boxes a b c d ≡ true → Apart a b c d
 boxes-yes a b c d e =
-    ⊎-elim (λ f. by-x (parted-yes _ _ _ _ f)) (λ f. by-y (parted-yes _ _ _ _ f)) (or-yes (parted (a .x) (b .x) (c .x) (d .x)) (parted (a .y) (b .y) (c .y) (d .y)) e)
-  where
-    by-x : Split (a .x) (b .x) (c .x) (d .x) → Apart a b c d
-    by-x (under h i j k) = before h i j k
-    by-x (over h i j k) = behind h i j k
-
-    by-y : Split (a .y) (b .y) (c .y) (d .y) → Apart a b c d
-    by-y (under h i j k) = below h i j k
-    by-y (over h i j k) = above h i j k
+    ⊎-elim (λ f. by-x a b c d (parted-yes _ _ _ _ f)) (λ f. by-y a b c d (parted-yes _ _ _ _ f)) (or-yes (parted (a .x) (b .x) (c .x) (d .x)) (parted (a .y) (b .y) (c .y) (d .y)) e)
 
 -- the flag of what is apart
 abbrev apartFlag : Pt → Pt → Pt → Pt → Bool
@@ -103,16 +64,8 @@ apartFlag a b c d = boxes a b c d || (aside a b c d || aside c d a b)
 flag-apart : (a b c d : Pt) → apartFlag a b c d ≡ true → Apart a b c d
 flag-apart a b c d e =
     ⊎-elim (λ f. boxes-yes a b c d f)
-    (λ f. ⊎-elim (λ g. first (same-yes _ _ g)) (λ g. second (same-yes _ _ g)) (or-yes (aside a b c d) (aside c d a b) f))
+    (λ f. ⊎-elim (λ g. by-edge a b c d (same-yes _ _ g)) (λ g. by-way a b c d (same-yes _ _ g)) (or-yes (aside a b c d) (aside c d a b) f))
     (or-yes (boxes a b c d) (aside a b c d || aside c d a b) e)
-  where
-    first : Signs (o a b c) (o a b d) → Apart a b c d
-    first (minus h k) = right h k
-    first (plus h k) = left h k
-
-    second : Signs (o c d a) (o c d b) → Apart a b c d
-    second (minus h k) = right′ h k
-    second (plus h k) = left′ h k
 
 apart-flag : (a b c d : Pt) → Apart a b c d → apartFlag a b c d ≡ true
 apart-flag a b c d (right h k) = or-right (boxes a b c d) _ (or-left (aside a b c d) (aside c d a b) (same-minus _ _ h k))
@@ -139,18 +92,12 @@ equal-decides a b = decides (a ≡ b) (equal a b) (λ e. yes (and-yes _ _ e)) (�
     yes : ((leZ (a .x) (b .x) && leZ (b .x) (a .x)) ≡ true) × ((leZ (a .y) (b .y) && leZ (b .y) (a .y)) ≡ true) → a ≡ b
     yes h = pt-eq a b (level _ _ (h .0)) (level _ _ (h .1))
 
-    refl-le : (u : ℤ) → u ≤ℤ u
-    refl-le = all _ λ a a′. simp ring (omega arith)
-
     self : (u : ℤ) → (leZ u u && leZ u u) ≡ true
-    self u = let e = true-le u u (refl-le u) in and-both _ _ e e
+    self u = let e = true-le u u (≤ℤ-refl u) in and-both _ _ e e
 
 -- ---- a point and an edge
-on-one-point : (px py qx qy : ℤ) → side px py px py qx qy ≡ pos 0
-on-one-point = vars4 _ λ ρ. simp (poly, num-val ρ) (by-ring _ _ _ tt)
-
 no-side : (p a b : Pt) → aside p p a b ≡ false
-no-side p a b = rw (on-one-point (p .x) (p .y) (a .x) (a .y))
+no-side p a b = rw (no-line (p .x) (p .y) (a .x) (a .y))
 
 pub on-decides : (p a b : Pt) → Decides (On p a b) (not (boxes a b p p || aside a b p p))
 on-decides p a b =

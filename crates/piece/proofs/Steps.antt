@@ -7,14 +7,13 @@ use lib.IntN.{ℤ, pos, negsuc, natAbs, _-ℤ_, _*ℤ_}
 use mir.Syntax.{w64}
 use mir.Val.{SFits}
 use Rattle.whole.proofs.Polynomial.{vars4, vars6, poly}
-use Rattle.whole.proofs.Range.{fits, abs-mul-le, in-range}
+use Rattle.whole.proofs.Range.{fits, abs-by, abs-mul-le, in-range}
 use Rattle.rules.specs.Reach.{Reach}
 use Rattle.rules.proofs.Segment.{side}
 use Rattle.piece.specs.Steps.{SideSteps, CrossSteps}
 
 pub reach-abs : (z : ℤ) → Reach z → natAbs z ≤ 16384
-reach-abs (pos n) h = leb→le n 16384 (h .below .le)
-reach-abs (negsuc n) h = let l = leb→le n 16383 (h .above .le) in omega arith
+reach-abs z h = abs-by 16384 z (h .above) (h .below)
 
 -- the farthest that a point over a denominator lies
 abbrev pub Wide : ℤ → Type 0

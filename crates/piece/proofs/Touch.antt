@@ -10,7 +10,7 @@ use lib.Signed.{leZ}
 use mir.Syntax.{w32, w64}
 use mir.Val.{SFits, toZ, ofZ}
 use mir.Facts.{toZ-ofZ}
-use Rattle.whole.proofs.Flag.{false-true}
+use Rattle.whole.proofs.Flag.{by-flag, false-true}
 use Rattle.whole.proofs.Range.{fits, abs-by, abs-add, abs-sub, abs-mul-le, abs-neg}
 use Rattle.rules.specs.Reach.{Speed, Run, Piece}
 use Rattle.rules.specs.Ring.{Pt, Ring}
@@ -111,18 +111,10 @@ module _ (p w : Pt) (s : Span) (a b : Pt) (h : Ready p w s a b) where
 
 -- ---- along one coordinate
 least-most : (a b : ℤ) → natAbs a ≤ 16384 → natAbs b ≤ 16384 → natAbs (least a b) ≤ 16384
-least-most a b h k = pick (leZ a b)
-  where
-    pick : (t : Bool) → natAbs (cond t a b) ≤ 16384
-    pick true = h
-    pick false = k
+least-most a b h k = by-flag (λ z. natAbs z ≤ 16384) (leZ a b) a b (λ e. h) (λ e. k)
 
 most-most : (a b : ℤ) → natAbs a ≤ 16384 → natAbs b ≤ 16384 → natAbs (most a b) ≤ 16384
-most-most a b h k = pick (leZ a b)
-  where
-    pick : (t : Bool) → natAbs (cond t b a) ≤ 16384
-    pick true = k
-    pick false = h
+most-most a b h k = by-flag (λ z. natAbs z ≤ 16384) (leZ a b) b a (λ e. k) (λ e. h)
 
 module _ (p w : ℤ) (s : Span) (a b : ℤ) (h : Flat p w s a b) where
   low-most : natAbs (p -ℤ least a b) ≤ 32768

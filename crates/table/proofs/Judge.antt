@@ -12,7 +12,7 @@ use lib.ListN.{length, getD}
 use lib.Signed.{_≤ℤ_, leZ, ltZ}
 use borrow.Author.Tests.{eqb-true, eq-eqb, leb-true, le-leb, ltb-true, lt-ltb, le-ltb}
 use Rattle.whole.proofs.Order.{ℕ-or}
-use Rattle.whole.proofs.Flag.{decided, false-true, le-true, lt-true, lt-false, true-le}
+use Rattle.whole.proofs.Flag.{decided, false-true, or-yes, or-left, or-right, and-yes, and-both, le-true, lt-true, lt-false, true-le}
 use Rattle.rules.specs.Reach.{Between, Reach, Speed, Run, Piece}
 use Rattle.rules.specs.Ring.{Pt, Ring, ring, next, from, to, Neighbours, Share}
 use Rattle.rules.specs.Refusal.{Check, Passes}
@@ -40,7 +40,7 @@ use Rattle.piece.specs.Tells.{Tells}
 use Rattle.piece.specs.declared.motion.Verdict.{Verdict}
 use Rattle.piece.specs.declared.motion.Verdict.the-variants as verdict
 use Rattle.piece.proofs.Decide.{yes, no, truth, none-found, first-found, Below, none-yet, one-more}
-use Rattle.piece.proofs.Shape.{decides, and-yes, and-both, or-yes, or-left, or-right, shares-decides, equal-decides, bends-decides}
+use Rattle.piece.proofs.Shape.{decides, shares-decides, equal-decides, bends-decides}
 use Rattle.piece.specs.Shape.{meets}
 use Rattle.piece.proofs.Finds.{found-stray, found-same, found-fold, found-meet, found-clockwise, found-good, footprint-finds, piece-finds, place-finds}
 
