@@ -1,27 +1,21 @@
 -- Between two moments the parity stays, or some edge is touched on the way. Assumes nothing.
-use mathlib.Core.Path.{_≡_, refl, sym, ap, subst, _∙_}
+use mathlib.Core.Path.{_≡_, sym, ap, subst, _∙_}
 use mathlib.Core.Logic.{_⊎_, inl, inr, ⊎-elim}
-use mathlib.Core.Bool.{Bool}
 use Prim.Native.Nat.{ℕ, zero, suc, _≤_, _<_}
 use native.Mathlib.Omega.{arith}
 use lib.IntN.{ℤ, pos, _+ℤ_, _-ℤ_, _*ℤ_}
-use lib.Signed.{_≤ℤ_, _<ℤ_}
 use Rattle.whole.specs.Fraction.{Frac, _≼_}
-use Rattle.whole.proofs.Difference.{all3, ring}
 use Rattle.whole.proofs.Order.{nn-mul, pos-mul, lt-le, le-sub, ℕ-or}
 use Rattle.whole.proofs.Polynomial.{vars3, vars6, vars8, poly, num-val, by-ring}
 use Rattle.rules.specs.Ring.{Pt, times, Ring, from, to}
 use Rattle.rules.proofs.Segment.{Apart, Common, decide}
-use Rattle.rules.proofs.On.{move}
+use Rattle.rules.proofs.On.{move, origin}
 use Rattle.rules.proofs.Share.{pt-eq}
 use Rattle.rules.proofs.Crossing.{flag, parity, same-parity}
 use Rattle.rules.proofs.Place.{moved, same-flags}
 use Rattle.decide.specs.Touch.{over}
 use Rattle.decide.proofs.Touch.{at, OnAt, diff-le}
 use Rattle.decide.proofs.First.{OnFirst}
-
-abbrev origin : Pt
-origin = record { x = pos 0; y = pos 0 }
 
 -- ---- a point common to an edge and the way from one moment to the next is a touch between them
 position : (n j d e m k p w : ℤ) → (n *ℤ (d *ℤ e)) *ℤ p +ℤ ((n -ℤ j) *ℤ (e *ℤ m) +ℤ j *ℤ (d *ℤ k)) *ℤ w ≡ (n -ℤ j) *ℤ (e *ℤ (d *ℤ p +ℤ m *ℤ w) +ℤ pos 0) +ℤ j *ℤ (d *ℤ (e *ℤ p +ℤ k *ℤ w) +ℤ pos 0)

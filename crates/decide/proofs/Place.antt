@@ -1,15 +1,15 @@
 -- The test of a point on an edge, the sign and the box, decides `On`; so the computed place is the place. Assumes nothing.
-use mathlib.Core.Path.{_≡_, refl, sym, ap, subst, _∙_}
-use mathlib.Core.Logic.{_⊎_, inl, inr, ⊎-elim}
-use mathlib.Core.Bool.{Bool, true, false, cond, _&&_, _||_}
+use mathlib.Core.Path.{_≡_, refl, sym, subst, _∙_}
+use mathlib.Core.Logic.{⊎-elim}
+use mathlib.Core.Bool.{Bool, true, false, cond, _&&_}
 use Prim.Native.Nat.{ℕ, zero, suc, _≤_, _<_}
 use native.Mathlib.Omega.{arith}
-use lib.IntN.{ℤ, pos, _-ℤ_, _*ℤ_}
+use lib.IntN.{ℤ, pos}
 use lib.Signed.{_≤ℤ_, _<ℤ_, leZ, <ℤ-≤ℤ-trans}
 use Rattle.whole.proofs.Order.{le-lt-trans, lt-le, not-lt, clash, neg-not, pos-not, ℕ-or}
 use Rattle.whole.proofs.Flag.{by-flag, false-true, decided, or-yes, or-left, or-right, and-yes, and-both, le-true, le-false, true-le}
 use Rattle.rules.specs.Ring.{Pt, Ring, from, to, On}
-use Rattle.rules.specs.Place.{OnRing, Where, on, inside, outside, Parity, Place}
+use Rattle.rules.specs.Place.{OnRing, on, inside, outside, Parity, Place}
 use Rattle.rules.proofs.Segment.{o, no-line, Apart, right, left, right′, left′, below, above, before, behind}
 use Rattle.rules.proofs.On.{on-or-off, off-not-on}
 use Rattle.rules.proofs.Crossing.{flag, parity}

@@ -1,20 +1,16 @@
 -- Clipping keeps exactly the moments that satisfy the inequality; a span's begin is its first moment. Assumes nothing.
-use mathlib.Core.Path.{_≡_, refl, sym, ap, subst, _∙_}
-use mathlib.Core.Logic.{_↔_, _⊎_, inl, inr, ⊎-elim}
-use mathlib.Core.Bool.{Bool, true, false, cond}
-use Prim.Native.Nat.{ℕ, _/_, _≤_, _<_}
+use mathlib.Core.Path.{_≡_, refl, sym, subst}
+use mathlib.Core.Bool.{true, false}
 use native.Mathlib.Omega.{arith}
-use lib.Dec.{le→leb}
-use lib.IntN.{ℤ, pos, negsuc, negℤ, natAbs, _+ℤ_, _-ℤ_, _*ℤ_, *ℤ-comm}
-use lib.Signed.{_≤ℤ_, _<ℤ_, leZ, ltZ, pos-natAbs}
-use Rattle.whole.specs.Fraction.{Frac, _≼_, _≺_, mark, whole, Floor}
-use Rattle.whole.proofs.Fraction.{trans, total, apart, floor-is}
-use Rattle.whole.proofs.Difference.{all, all2, all3, all4, ring}
-use Rattle.whole.proofs.Order.{le-trans, lt-le, eq-le, clash, antisym, nn-mul, pos-neg-mul, pn-mul, turn-lt, le-or-lt, nn-factor}
-use Rattle.whole.proofs.Flag.{by-flag, decided, lt-true, lt-false, le-true, le-false, true-le}
-use Rattle.whole.proofs.Polynomial.{vars2, vars3, vars4, poly, by-ring}
+use lib.IntN.{ℤ, pos, negsuc, negℤ, _+ℤ_, _*ℤ_, *ℤ-comm, zero-*ℤ, +ℤ-idr}
+use lib.Signed.{_≤ℤ_, _<ℤ_, ltZ, pos-natAbs}
+use Rattle.whole.specs.Fraction.{Frac, _≼_, Floor}
+use Rattle.whole.proofs.Fraction.{trans, apart, floor-is}
+use Rattle.whole.proofs.Difference.{all2, all4, ring}
+use Rattle.whole.proofs.Order.{le-trans, lt-le, eq-le, clash, antisym, nn-mul, pos-neg-mul, turn-lt, nn-factor}
+use Rattle.whole.proofs.Flag.{by-flag, lt-true, lt-false, le-true, le-false}
 use Rattle.whole.proofs.Range.{quot}
-use Rattle.decide.specs.Span.{Span, ticks, raise, lower, none, clip, some, first}
+use Rattle.decide.specs.Span.{Span, raise, lower, none, clip, some, first}
 
 -- positive divisors, and a begin at or after 0
 pub record Proper (s : Span) : Type 0 where
@@ -48,16 +44,13 @@ module _ (s : Span) (p : Proper s) (n d : ℤ) (l : pos 0 <ℤ d) where
   abbrev bound : Frac
   bound = record { num = n; den = d; some = l }
 
-  past-zero : (a b c e : ℤ) → pos 0 ≤ℤ a → pos 0 <ℤ e → (a *ℤ b) <ℤ (c *ℤ e) → pos 0 <ℤ b → pos 0 ≤ℤ c
-  past-zero a b c e ha he h hb = ⊎-elim (λ k. k) (λ k. absurd (clash _ _ h (le-trans _ _ _ (pn-mul c e (lt-le _ _ k) (lt-le _ _ he)) (nn-mul a b ha (lt-le _ _ hb))))) (le-or-lt (pos 0) c)
-
   pub raises : Clips s (raise s n d) (λ t. bound ≼ t)
   unfolding raise
   raises =
       by-flag (λ u. Clips s u (λ t. bound ≼ t)) (ltZ (s .lowN *ℤ d) (n *ℤ s .lowD)) _ s
       (λ e. let h = lt-true (s .lowN *ℤ d) (n *ℤ s .lowD) e in
       record {
-        proper = record { low = l; high = p .high; from = past-zero (s .lowN) d n (s .lowD) (p .from) (p .low) h l };
+        proper = record { low = l; high = p .high; from = nn-factor n (s .lowD) (p .low) (le-trans _ _ _ (nn-mul (s .lowN) d (p .from) (lt-le _ _ l)) (lt-le _ _ h)) };
         keeps = λ t i q. record { after = q; until = i .until };
         gives = λ t i. (record { after = trans (begin s p) bound t (lt-le _ _ h) (i .after); until = i .until }, i .after);
       })
@@ -101,19 +94,10 @@ fall⁻¹ = all4 _ λ a a′ b b′ c c′ d d′. simp ring (omega arith)
 
 -- no slope: the inequality is one of α
 flat : (α n d : ℤ) → pos 0 ≤ℤ (α *ℤ d) → pos 0 ≤ℤ (α *ℤ d +ℤ pos 0 *ℤ n)
-flat α n d h = go (α *ℤ d) n h
-  where
-    go : (x n : ℤ) → pos 0 ≤ℤ x → pos 0 ≤ℤ (x +ℤ pos 0 *ℤ n)
-    go = all2 _ λ a a′ b b′. simp ring (omega arith)
+flat α n d h = rw (zero-*ℤ n, +ℤ-idr (α *ℤ d)) h
 
 flat⁻¹ : (α n d : ℤ) → pos 0 ≤ℤ (α *ℤ d +ℤ pos 0 *ℤ n) → pos 0 ≤ℤ (α *ℤ d)
-flat⁻¹ α n d h = go (α *ℤ d) n h
-  where
-    go : (x n : ℤ) → pos 0 ≤ℤ (x +ℤ pos 0 *ℤ n) → pos 0 ≤ℤ x
-    go = all2 _ λ a a′ b b′. simp ring (omega arith)
-
-neg-mul : (α d : ℤ) → α <ℤ pos 0 → pos 0 <ℤ d → pos 0 ≤ℤ (α *ℤ d) → ⊥
-neg-mul α d h k q = clash _ _ (pos-neg-mul d α k h) (rw (*ℤ-comm d α) q)
+flat⁻¹ α n d h = rw (zero-*ℤ n, +ℤ-idr (α *ℤ d)) at h
 
 -- the empty span holds nothing
 nothing : (s : Span) → Proper s → (t : Frac) → In (none s) t → ⊥
@@ -130,7 +114,7 @@ none-proper s p = record { low = p .low; high = record { lt = tt }; from = p .fr
 nones : (s : Span) → Proper s → (α : ℤ) → α <ℤ pos 0 → Clips s (none s) (λ t. Holds α (pos 0) t)
 nones s p α h = record {
   proper = none-proper s p;
-  keeps = λ t i q. absurd (neg-mul α (t .den) h (t .some) (flat⁻¹ α (t .num) (t .den) q));
+  keeps = λ t i q. absurd (clash _ _ (pos-neg-mul (t .den) α (t .some) h) (rw (*ℤ-comm (t .den) α) (flat⁻¹ α (t .num) (t .den) q)));
   gives = λ t i. absurd (nothing s p t i);
 }
 

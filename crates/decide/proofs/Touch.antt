@@ -1,25 +1,21 @@
 -- The clipped span of an edge holds exactly the moments at which the point is on it, so its begin is the first touch. Assumes nothing.
-use mathlib.Core.Path.{_≡_, refl, sym, ap, subst, _∙_}
-use mathlib.Core.Logic.{_⊎_, inl, inr, ⊎-elim}
-use mathlib.Core.Bool.{Bool, true, false, cond, _&&_, _||_}
-use Prim.Native.Nat.{ℕ, zero, suc, min, _≤_, _<_}
+use mathlib.Core.Path.{_≡_, refl, sym, ap, _∙_}
+use mathlib.Core.Logic.{⊎-elim}
+use mathlib.Core.Bool.{Bool, true, false, cond, _&&_}
 use native.Mathlib.Omega.{arith}
-use lib.Dec.{T, leb→le}
-use lib.IntN.{ℤ, pos, negℤ, _+ℤ_, _-ℤ_, _*ℤ_}
+use lib.IntN.{ℤ, pos, negℤ, _+ℤ_, _-ℤ_, _*ℤ_, zero-*ℤ}
 use lib.Signed.{_≤ℤ_, _<ℤ_, leZ, ltZ}
-use Rattle.whole.specs.Fraction.{Frac, _≼_, _≺_, mark, whole, Floor}
-use Rattle.whole.proofs.Fraction.{trans, total, floor-mono}
-use Rattle.whole.proofs.Difference.{all, all2, all3, all4, ring}
-use Rattle.whole.proofs.Order.{neg-not, pos-not, nn-mul, pos-mul, pos-neg-mul, nn-factor, mul-mono, cancel, lt-le, clash, ℕ-or}
+use Rattle.whole.specs.Fraction.{Frac}
+use Rattle.whole.proofs.Difference.{all3, ring}
+use Rattle.whole.proofs.Order.{pn-mul, neg-not, pos-not, nn-mul, pos-mul, pos-neg-mul, nn-factor, mul-mono, cancel, lt-le}
 use Rattle.whole.proofs.Flag.{same-flag, or-yes, and-yes, lt-true}
 use Rattle.whole.proofs.Polynomial.{vars3, vars4, vars5, vars6, vars9, vars10, poly, num-val, by-ring}
-use Rattle.rules.specs.Ring.{Pt, times, Ring, from, to, On}
+use Rattle.rules.specs.Ring.{Pt, times, On}
 use Rattle.rules.specs.Contact.{along}
 use Rattle.rules.proofs.Segment.{o, side, mix, mix⁺, Signs, minus, plus}
-use Rattle.decide.specs.Span.{Span, clip, some, first}
-use Rattle.rules.specs.Verdict.{NONE}
-use Rattle.decide.specs.Touch.{least, most, swing, across, sameSide, onLine, within, onEdge, touch, touches}
-use Rattle.decide.proofs.Span.{Proper, In, begin, Holds, Clips, clips, turned, both, begins, no-moment, first-mark}
+use Rattle.decide.specs.Span.{Span}
+use Rattle.decide.specs.Touch.{least, most, swing, across, sameSide, onLine, within, onEdge}
+use Rattle.decide.proofs.Span.{Proper, Holds, Clips, clips, turned, both}
 use Rattle.decide.proofs.Place.{Boxed, on-boxed, boxed-on}
 
 -- the point at t, over its denominator
@@ -70,16 +66,7 @@ turn-side : (α β d n : ℤ) → negℤ α *ℤ d +ℤ negℤ β *ℤ n ≡ pos
 turn-side = vars4 _ λ ρ. simp (poly, num-val ρ) (by-ring _ _ _ tt)
 
 np-factor : (z d : ℤ) → pos 0 <ℤ d → (z *ℤ d) ≤ℤ pos 0 → z ≤ℤ pos 0
-np-factor z d l h = cancel z (pos 0) d l (go d (z *ℤ d) h)
-  where
-    go : (d x : ℤ) → x ≤ℤ pos 0 → x ≤ℤ (pos 0 *ℤ d)
-    go = all2 _ λ a a′ b b′. simp ring (omega arith)
-
-np-times : (z d : ℤ) → pos 0 <ℤ d → z ≤ℤ pos 0 → (z *ℤ d) ≤ℤ pos 0
-np-times z d l h = go d (z *ℤ d) (mul-mono z (pos 0) d h (lt-le _ _ l))
-  where
-    go : (d x : ℤ) → x ≤ℤ (pos 0 *ℤ d) → x ≤ℤ pos 0
-    go = all2 _ λ a a′ b b′. simp ring (omega arith)
+np-factor z d l h = cancel z (pos 0) d l (rw (zero-*ℤ d) h)
 
 -- ---- an edge
 module _ (p w a b : Pt) where
@@ -91,7 +78,7 @@ module _ (p w a b : Pt) where
 
   six-boxed : (t : Frac) → Six t → Boxed (at p w t) (times (t .den) a) (times (t .den) b)
   six-boxed t h = record {
-    right = rw (side-at t) (np-times (o a b p *ℤ t .den +ℤ swing a b w *ℤ t .num) (t .den) (t .some) (diff-le _ (pos 0) (o a b p *ℤ t .den +ℤ swing a b w *ℤ t .num) (turn-side (o a b p) (swing a b w) (t .den) (t .num)) (h .0 .0 .1)));
+    right = rw (side-at t) (pn-mul (o a b p *ℤ t .den +ℤ swing a b w *ℤ t .num) (t .den) (diff-le _ (pos 0) (o a b p *ℤ t .den +ℤ swing a b w *ℤ t .num) (turn-side (o a b p) (swing a b w) (t .den) (t .num)) (h .0 .0 .1)) (lt-le _ _ (t .some)));
     left = rw (side-at t) (nn-mul (o a b p *ℤ t .den +ℤ swing a b w *ℤ t .num) (t .den) (h .0 .0 .0) (lt-le _ _ (t .some)));
     x-low = rw (least-times (t .den) (a .x) (b .x) (t .some)) (diff-le _ _ _ (low-eq (t .den) (t .num) (p .x) (w .x) (least (a .x) (b .x))) (h .0 .1 .0));
     x-high = rw (most-times (t .den) (a .x) (b .x) (t .some)) (diff-le _ _ _ (high-eq (t .den) (t .num) (p .x) (w .x) (most (a .x) (b .x))) (h .0 .1 .1));

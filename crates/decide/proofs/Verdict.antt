@@ -2,27 +2,25 @@
 use mathlib.Core.Path.{_≡_, refl, sym, ap, subst, _∙_}
 use mathlib.Core.Logic.{_⊎_, inl, inr, ⊎-elim}
 use mathlib.Core.Bool.{Bool, true, false, cond}
-use Prim.Native.Nat.{ℕ, _*_, _≤_, _<_}
+use Prim.Native.Nat.{ℕ, _*_}
 use native.Mathlib.Omega.{arith}
-use lib.Dec.{eqb, le→leb}
+use lib.Dec.{le→leb}
 use lib.IntN.{ℤ, pos, negℤ, _+ℤ_, _-ℤ_, _*ℤ_}
-use lib.Signed.{_≤ℤ_, _<ℤ_}
-use Rattle.whole.specs.Fraction.{Frac, _≼_, _≺_, mark, whole, Floor}
+use Rattle.whole.specs.Fraction.{Frac, _≼_, mark, whole, Floor}
 use Rattle.whole.proofs.Fraction.{trans, apart}
 use Rattle.whole.proofs.Order.{eq-le}
 use Rattle.whole.proofs.Polynomial.{vars6, poly, by-ring}
 use Rattle.rules.specs.Reach.{Run, Piece, Ticks}
-use Rattle.rules.specs.Ring.{Pt, Ring, ring}
+use Rattle.rules.specs.Ring.{Ring, ring}
 use Rattle.rules.specs.Place.{Where, on, inside, outside, Place}
 use Rattle.rules.specs.Contact.{Moment, InBand, Contact}
 use Rattle.rules.specs.Verdict.{Mark, Verdict, NONE, answer}
-use Rattle.rules.proofs.Crossing.{flag, parity}
 use Rattle.rules.proofs.Place.{bit, place-parity, zero-one}
 use Rattle.rules.proofs.Verdict.{mark-answers}
 use Rattle.rules.proofs.Contact.{place-relative, relative-place}
-use Rattle.decide.specs.Span.{Span, ticks, clip, some, first}
+use Rattle.decide.specs.Span.{Span, ticks, some, first}
 use Rattle.decide.specs.Touch.{touches, place, pointOf, motion, bandSpan, startPoint, over, fromPlace, meets, code}
-use Rattle.decide.proofs.Span.{Proper, In, begin, Holds, Clips, clips, turned, both, begins, no-moment, first-mark, between}
+use Rattle.decide.proofs.Span.{Proper, In, begin, Clips, clips, turned, both, begins, no-moment, first-mark, between}
 use Rattle.decide.proofs.Touch.{at, diff-le, le-diff}
 use Rattle.decide.proofs.Place.{place-right}
 use Rattle.decide.proofs.First.{FirstAt, never, when, Early, below-none, OnFirst, first-touches}

@@ -10,7 +10,7 @@ use lib.Signed.{_≤ℤ_, _<ℤ_}
 use Rattle.whole.proofs.Order.{clash}
 use Rattle.rules.specs.Ring.{Pt, Ring, ring, from, to, On}
 use Rattle.rules.specs.Refusal.{First, Passes, Fault, each, refuse}
-use Rattle.rules.specs.Good.{Same, Folds, Meet, FirstMeet, area, bandNumber, Sized, sizedCheck, bandCheck, shapeChecks, footprintChecks, pieceChecks}
+use Rattle.rules.specs.Good.{Same, Folds, Meet, FirstMeet, bandNumber, Sized, sizedCheck, bandCheck, shapeChecks, footprintChecks, pieceChecks}
 use Rattle.rules.proofs.Ring.{next-one}
 use Rattle.rules.proofs.Share.{fold-ends, end-folds}
 use Rattle.rules.specs.Reach.{Piece, Reach}

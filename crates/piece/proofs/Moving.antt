@@ -1,6 +1,6 @@
 -- Clipping keeps a span tame, and what tame numbers give fits. Assumes nothing.
-use mathlib.Core.Path.{_≡_, refl, _∙_}
-use mathlib.Core.Bool.{Bool, true, false, cond}
+use mathlib.Core.Path.{_≡_, _∙_}
+use mathlib.Core.Bool.{true, false}
 use Prim.Native.Nat.{ℕ, _≤_}
 use native.Mathlib.Omega.{arith}
 use lib.Dec.{T, leb→le}
@@ -9,10 +9,9 @@ use lib.Signed.{_≤ℤ_, _<ℤ_, ltZ, quotZ, nonNeg, <ℤ-≤ℤ-trans}
 use mir.Syntax.{w64}
 use mir.Val.{SFits, toZ, ofZ}
 use mir.Facts.{toZ-ofZ}
-use Rattle.whole.proofs.Difference.{all, all2, all3, ring}
+use Rattle.whole.proofs.Difference.{all, all2, ring}
 use Rattle.whole.proofs.Order.{mul-swap-r, turn-lt, nn-mul, mul-mono, cancel, cancel-lt, le-trans, lt-le, nn-factor}
 use Rattle.whole.proofs.Flag.{by-flag, lt-true, le-true}
-use Rattle.whole.proofs.Polynomial.{vars3, poly, by-ring}
 use Rattle.whole.proofs.Range.{fits, abs-mul-le, abs-neg, Quot, quot}
 use Rattle.decide.specs.Span.{Span, raise, lower, none, clip, some, first}
 use Rattle.piece.specs.Moving.{Tame, Small, Bounds, Slope, Crossed, MarkSteps}

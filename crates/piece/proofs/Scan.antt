@@ -1,15 +1,14 @@
 -- One pass over the edges: the computed place. Assumes nothing.
 use mathlib.Core.Path.{_≡_, refl, ap, subst}
-use mathlib.Core.Bool.{Bool, true, false, _||_}
+use mathlib.Core.Bool.{Bool, true, false}
 use mathlib.Core.Logic.{⊎-elim}
 use Prim.Native.Nat.{ℕ, zero, suc, _+_, _≤_, _<_}
 use native.Mathlib.Omega.{arith}
 use native.Mathlib.Numerals.{add-one}
-use lib.IntN.{ℤ, pos, _*ℤ_}
-use Rattle.whole.proofs.Difference.{all, ring}
+use lib.IntN.{pos}
 use Rattle.whole.proofs.Order.{ℕ-or}
 use Rattle.whole.proofs.Flag.{or-right}
-use Rattle.rules.specs.Ring.{Pt, times, Ring, from, to}
+use Rattle.rules.specs.Ring.{Pt, Ring, from, to}
 use Rattle.rules.specs.Place.{on, inside, outside}
 use Rattle.rules.proofs.Crossing.{xor, flag, parity}
 use Rattle.rules.proofs.Share.{times-one}

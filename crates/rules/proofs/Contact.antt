@@ -1,11 +1,11 @@
 -- Contact does not depend on how a moment is written, and is a question of the relative motion alone. Assumes nothing.
 use mathlib.Core.Path.{_≡_, sym, subst, _∙_}
 use mathlib.Core.HLevel.{isProp→PathP}
-use mathlib.Core.Logic.{_⊎_, inl, inr, ⊎-elim}
+use mathlib.Core.Logic.{inl, inr, ⊎-elim}
 use lib.Dec.{T-prop}
 use lib.IntN.{ℤ, pos, _+ℤ_, _-ℤ_, _*ℤ_, *ℤ-comm}
 use lib.Signed.{_≤ℤ_, _<ℤ_, ltZ}
-use Rattle.whole.specs.Fraction.{Frac, _≼_, _≈_, whole}
+use Rattle.whole.specs.Fraction.{Frac, _≈_, whole}
 use Rattle.whole.proofs.Fraction.{scaled, trans}
 use Rattle.whole.proofs.Order.{eq-le, mul-mono, cancel, lt-le}
 use Rattle.whole.proofs.Polynomial.{vars4, vars5, poly, num-val, by-ring}
@@ -13,13 +13,10 @@ use Rattle.rules.specs.Reach.{Run, Piece}
 use Rattle.rules.specs.Ring.{Pt, times, Ring}
 use Rattle.rules.specs.Ring as corners
 use Rattle.rules.specs.Place.{Where, on, inside, Place}
-use Rattle.rules.specs.Contact.{Moment, along, pointAt, ringAt, InBand, Contact}
-use Rattle.rules.proofs.On.{move}
+use Rattle.rules.specs.Contact.{Moment, along, pointAt, ringAt, Contact}
+use Rattle.rules.proofs.On.{move, origin}
 use Rattle.rules.proofs.Share.{pt-eq}
 use Rattle.rules.proofs.Place.{moved, place-moved, place-unmoved}
-
-origin : Pt
-origin = record { x = pos 0; y = pos 0 }
 
 -- ---- the same moment with c times the numbers
 along-scaled : (c d n p v : ℤ) → c *ℤ (d *ℤ p +ℤ n *ℤ v) +ℤ pos 0 ≡ (c *ℤ d) *ℤ p +ℤ (c *ℤ n) *ℤ v
@@ -27,11 +24,9 @@ along-scaled = vars5 _ λ ρ. simp (poly, num-val ρ) (by-ring _ _ _ tt)
 
 module _ (r : Run) (k : Piece) (c : ℤ) (l : pos 0 <ℤ c) (t : Frac) where
   point-scaled : move c origin (pointAt r t) ≡ pointAt r (scaled c l t)
-  unfolding origin
   point-scaled = pt-eq _ _ (along-scaled c (t .den) (t .num) (r .start .x) (r .speed .x)) (along-scaled c (t .den) (t .num) (r .start .y) (r .speed .y))
 
   ring-scaled : moved c origin l (ringAt k t) ≡ ringAt k (scaled c l t)
-  unfolding origin
   ring-scaled = λ j. record { size = ringAt k t .size; at = λ i. pt-eq (move c origin (ringAt k t .at i)) (ringAt k (scaled c l t) .at i) (along-scaled c (t .den) (t .num) (corners.ring (k .corners) .at i .x) (k .speed .x)) (along-scaled c (t .den) (t .num) (corners.ring (k .corners) .at i .y) (k .speed .y)) j }
 
   pub place-scaled : (w : Where) → Place (ringAt k t) (pointAt r t) w → Place (ringAt k (scaled c l t)) (pointAt r (scaled c l t)) w

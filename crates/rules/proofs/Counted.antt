@@ -1,17 +1,16 @@
 -- An edge is counted exactly when its crossing flag is set: the sign of one cross product, by where its ends lie. Assumes nothing.
 use mathlib.Core.Path.{_≡_, refl, sym, ap, _∙_}
 use mathlib.Core.Bool.{Bool, true, false}
-use Prim.Native.Nat.{ℕ}
 use native.Mathlib.Omega.{arith}
 use lib.IntN.{ℤ, pos, _+ℤ_, _-ℤ_, _*ℤ_}
 use lib.Signed.{_≤ℤ_, _<ℤ_, leZ}
-use Rattle.whole.proofs.Difference.{all2, all3, ring}
+use Rattle.whole.proofs.Difference.{all3, ring}
 use Rattle.whole.proofs.Order.{turn-gt, nn-mul, np-mul, neg-mul, pos-mul, pos-neg-mul, le-lt-trans, lt-le, lt-sub, le-sub, sub-mono, sub-lt, not-le, clash}
 use Rattle.whole.proofs.Flag.{lt-true, le-true, le-false, true-lt, true-le, false-le, false-true}
-use Rattle.whole.proofs.Polynomial.{vars3, vars4, vars6, vars7, vars8, poly, by-ring}
+use Rattle.whole.proofs.Polynomial.{vars4, vars7, vars8, poly, by-ring}
 use Rattle.rules.specs.Ring.{Pt}
 use Rattle.rules.specs.Place.{Straddles, rightward, leftward, Above}
-use Rattle.rules.proofs.Segment.{o, side, mean-times, turn-o}
+use Rattle.rules.proofs.Segment.{o, side, mean-times, mean-at, gap-at, turn-o}
 use Rattle.rules.proofs.Crossing.{tst, crosses}
 use Rattle.rules.proofs.On.{on-turn}
 
@@ -60,12 +59,6 @@ counted-yes p a b (leftward l r) h =
     (true-lt (pos 0) (o a b p) (against⁻ (h .at .m *ℤ h .m) (o a b p) (b .x -ℤ a .x) _ (pos-mul _ _ (h .at .some) (h .some)) (lower (h .at .m) (h .m *ℤ p .y) (h .y) (h .at .some) (h .above)) (height p a b h) (sub-lt _ _ (le-lt-trans _ _ _ l r))))
 
 -- ---- and back: the point of the edge at the point's x
-x-right : (ax bx px : ℤ) → (bx -ℤ ax) *ℤ ((bx -ℤ ax) *ℤ px) ≡ ((bx -ℤ ax) -ℤ (px -ℤ ax)) *ℤ ((bx -ℤ ax) *ℤ ax) +ℤ (px -ℤ ax) *ℤ ((bx -ℤ ax) *ℤ bx)
-x-right = vars3 _ λ ρ. simp poly (by-ring _ _ _ tt)
-
-gap-right : (ax ay bx by px py : ℤ) → (bx -ℤ ax) *ℤ py -ℤ (((bx -ℤ ax) -ℤ (px -ℤ ax)) *ℤ ay +ℤ (px -ℤ ax) *ℤ by) ≡ side ax ay bx by px py
-gap-right = vars6 _ λ ρ. simp poly (by-ring _ _ _ tt)
-
 gone : (u v w : ℤ) → u -ℤ v ≡ w → w <ℤ pos 0 → u <ℤ v
 gone = all3 _ λ a a′ b b′ c c′. simp ring (omega arith)
 
@@ -74,8 +67,8 @@ above-right p a b l r s = record {
   m = b .x -ℤ a .x;
   y = ((b .x -ℤ a .x) -ℤ (p .x -ℤ a .x)) *ℤ a .y +ℤ (p .x -ℤ a .x) *ℤ b .y;
   some = wide (a .x) (p .x) (b .x) l r;
-  at = record { m = b .x -ℤ a .x; i = p .x -ℤ a .x; some = wide (a .x) (p .x) (b .x) l r; low = le-sub _ _ l; high = sub-mono (a .x) (p .x) (b .x) (lt-le _ _ r); x = x-right (a .x) (b .x) (p .x); y = mean-times (b .x -ℤ a .x) (p .x -ℤ a .x) (a .y) (b .y) };
-  above = gone _ _ _ (gap-right (a .x) (a .y) (b .x) (b .y) (p .x) (p .y)) s;
+  at = record { m = b .x -ℤ a .x; i = p .x -ℤ a .x; some = wide (a .x) (p .x) (b .x) l r; low = le-sub _ _ l; high = sub-mono (a .x) (p .x) (b .x) (lt-le _ _ r); x = ap (λ z. (b .x -ℤ a .x) *ℤ z) (mean-at (a .x) (b .x) (p .x)) ∙ mean-times (b .x -ℤ a .x) (p .x -ℤ a .x) (a .x) (b .x); y = mean-times (b .x -ℤ a .x) (p .x -ℤ a .x) (a .y) (b .y) };
+  above = gone _ _ _ (gap-at (a .x) (a .y) (b .x) (b .y) (p .x) (p .y)) s;
 }
 
 -- leftward is rightward from the other end

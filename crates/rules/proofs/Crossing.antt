@@ -4,9 +4,9 @@ use mathlib.Core.Path.{_≡_, refl, sym, ap, subst, _∙_}
 use mathlib.Core.Bool.{Bool, true, false, not}
 use Prim.Native.Nat.{ℕ, zero, suc, _<_}
 use native.Mathlib.Omega.{arith}
-use lib.IntN.{ℤ, pos, negsuc, negℤ, _+ℤ_, _-ℤ_, _*ℤ_}
+use lib.IntN.{ℤ, pos, negℤ, _-ℤ_, _*ℤ_}
 use lib.Signed.{_≤ℤ_, _<ℤ_, leZ, ltZ}
-use Rattle.whole.proofs.Difference.{all, all2, all3, ring}
+use Rattle.whole.proofs.Difference.{all2, all3, ring}
 use Rattle.whole.proofs.Polynomial.{vars3, vars4, vars6, vars8, poly, num-val, by-ring}
 use Rattle.whole.proofs.Order.{nn-mul, np-mul, pn-mul, pp-mul, neg-mul, not-lt, not-le, clash, turn-gt, le-sub, lt-sub, sub-lt, lt-le}
 use Rattle.whole.proofs.Flag.{lt-true, lt-false, le-true, le-false, true-lt, false-lt, true-le, false-le}

@@ -1,20 +1,16 @@
 -- On an edge, and a point shared by two: decided, and unmoved by scaling and shifting. Assumes nothing.
-use mathlib.Core.Path.{_≡_, refl, sym, ap, subst, _∙_}
+use mathlib.Core.Path.{_≡_, sym, ap, _∙_}
 use mathlib.Core.Logic.{_⊎_, inl, inr, ⊎-elim}
 use native.Mathlib.Omega.{arith}
 use lib.IntN.{ℤ, pos, _+ℤ_, _-ℤ_, _*ℤ_}
-use lib.Signed.{_≤ℤ_, _<ℤ_}
-use Rattle.whole.proofs.Difference.{all2, all3, ring}
-use Rattle.whole.proofs.Order.{cancel-eq, sub-le, pos-mul, nn-mul, lt-le, le-or-lt, le-sub, mul-mono, not-lt, clash}
-use Rattle.whole.proofs.Polynomial.{vars2, vars3, vars4, vars5, vars6, vars7, poly, num-val, by-ring}
-use Rattle.rules.specs.Ring.{Pt, times, On, Share}
-use Rattle.rules.specs.Good.{Fold}
-use Rattle.rules.proofs.Segment.{Apart, Common, mean-turn, apart, decide}
+use lib.Signed.{_<ℤ_}
+use Rattle.whole.proofs.Difference.{all3, ring}
+use Rattle.whole.proofs.Order.{cancel-eq, sub-le, lt-le, le-sub}
+use Rattle.whole.proofs.Polynomial.{vars2, vars3, vars4, vars6, poly, by-ring}
+use Rattle.rules.specs.Ring.{Pt, On}
+use Rattle.rules.proofs.Segment.{Apart, Common, mean-none, mean-turn, apart, decide}
 
 -- ---- On is `Common` with a segment of one point
-whole-way : (m p : ℤ) → m *ℤ p ≡ (m -ℤ pos 0) *ℤ p +ℤ pos 0 *ℤ p
-whole-way = vars2 _ λ ρ. simp (poly, num-val ρ) (by-ring _ _ _ tt)
-
 one-point : (n j p : ℤ) → (n -ℤ j) *ℤ p +ℤ j *ℤ p ≡ n *ℤ p
 one-point = vars3 _ λ ρ. simp poly (by-ring _ _ _ tt)
 
@@ -28,8 +24,8 @@ on-common p a b h = record {
   i-high = h .high;
   j-low = record { le = tt };
   j-high = lt-le _ _ (h .some);
-  x = sym (h .x) ∙ whole-way (h .m) (p .x);
-  y = sym (h .y) ∙ whole-way (h .m) (p .y);
+  x = sym (mean-none (h .m) (p .x) (p .x) ∙ h .x);
+  y = sym (mean-none (h .m) (p .y) (p .y) ∙ h .y);
 }
 
 common-on : (p a b : Pt) → Common a b p p → On p a b
@@ -53,6 +49,10 @@ off-not-on p a b h k = apart a b p p h (on-common p a b k)
 -- ---- scaled and shifted: k times, and then by s
 abbrev pub move : ℤ → Pt → Pt → Pt
 move k s p = record { x = k *ℤ p .x +ℤ s .x; y = k *ℤ p .y +ℤ s .y }
+
+-- no shift
+abbrev pub origin : Pt
+origin = record { x = pos 0; y = pos 0 }
 
 out : (k s m p : ℤ) → m *ℤ (k *ℤ p +ℤ s) ≡ k *ℤ (m *ℤ p) +ℤ m *ℤ s
 out = vars4 _ λ ρ. simp poly (by-ring _ _ _ tt)

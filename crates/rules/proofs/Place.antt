@@ -1,17 +1,17 @@
 -- A place is exactly one of three: on, or by the parity of the crossing flags; scaling and shifting all do not change it. Assumes nothing.
 use mathlib.Core.Path.{_≡_, refl, sym, ap, _∙_}
 use mathlib.Core.Logic.{_⊎_, inl, inr, ⊎-elim}
-use mathlib.Core.Bool.{Bool, true, false, not}
+use mathlib.Core.Bool.{Bool, true, false}
 use Prim.Native.Nat.{ℕ, zero, suc, _%_, _≤_, _<_}
 use native.Mathlib.Omega.{arith}
-use lib.IntN.{ℤ, pos, _+ℤ_, _-ℤ_, _*ℤ_}
-use lib.Signed.{_≤ℤ_, _<ℤ_, leZ, ltZ}
-use Rattle.whole.proofs.Difference.{all2, all3, all4, ring}
+use lib.IntN.{ℤ, pos, _+ℤ_, _*ℤ_, zero-*ℤ}
+use lib.Signed.{_≤ℤ_, _<ℤ_, leZ, ltZ, ltZ-yes}
+use Rattle.whole.proofs.Difference.{all4, ring}
 use Rattle.whole.proofs.Order.{pos-mul, mul-mono, mul-mono-lt, cancel, cancel-lt, lt-le, ℕ-or}
 use Rattle.whole.proofs.Flag.{same-flag, decided, false-true}
 use Rattle.whole.proofs.Polynomial.{vars9, poly, by-ring}
 use Rattle.rules.specs.Ring.{Pt, Ring, from, to, On}
-use Rattle.rules.specs.Place.{OnRing, Straddles, Above, Counted, Count, start, more, pass, Where, on, inside, outside, Parity, Place}
+use Rattle.rules.specs.Place.{OnRing, Counted, Count, start, more, pass, Where, on, inside, outside, Parity, Place}
 use Rattle.rules.proofs.Segment.{o, side}
 use Rattle.rules.proofs.Crossing.{tst, xor, xor-unit, crosses, flag, parity, parity-ext}
 use Rattle.rules.proofs.Counted.{counted-yes, yes-counted}
@@ -105,22 +105,10 @@ module _ (k : ℤ) (s : Pt) (l : pos 0 <ℤ k) where
 
   -- a positive factor does not change a sign
   neg-scaled : (c z : ℤ) → pos 0 <ℤ c → ltZ (z *ℤ c) (pos 0) ≡ ltZ z (pos 0)
-  neg-scaled c z h = same-flag _ _ (λ t. cancel-lt z (pos 0) c h (zero-r c (z *ℤ c) (record { lt = t })) .lt) (λ t. zero-l c (z *ℤ c) (mul-mono-lt z (pos 0) c (record { lt = t }) h) .lt)
-    where
-      zero-r : (c x : ℤ) → x <ℤ pos 0 → x <ℤ (pos 0 *ℤ c)
-      zero-r = all2 _ λ a a′ b b′. simp ring (omega arith)
-
-      zero-l : (c x : ℤ) → x <ℤ (pos 0 *ℤ c) → x <ℤ pos 0
-      zero-l = all2 _ λ a a′ b b′. simp ring (omega arith)
+  neg-scaled c z h = same-flag _ _ (λ t. cancel-lt z (pos 0) c h (rw (zero-*ℤ c) (ltZ-yes t)) .lt) (λ t. (rw (zero-*ℤ c) at (mul-mono-lt z (pos 0) c (ltZ-yes t) h)) .lt)
 
   pos-scaled : (c z : ℤ) → pos 0 <ℤ c → ltZ (pos 0) (z *ℤ c) ≡ ltZ (pos 0) z
-  pos-scaled c z h = same-flag _ _ (λ t. cancel-lt (pos 0) z c h (zero-r c (z *ℤ c) (record { lt = t })) .lt) (λ t. zero-l c (z *ℤ c) (mul-mono-lt (pos 0) z c (record { lt = t }) h) .lt)
-    where
-      zero-r : (c x : ℤ) → pos 0 <ℤ x → (pos 0 *ℤ c) <ℤ x
-      zero-r = all2 _ λ a a′ b b′. simp ring (omega arith)
-
-      zero-l : (c x : ℤ) → (pos 0 *ℤ c) <ℤ x → pos 0 <ℤ x
-      zero-l = all2 _ λ a a′ b b′. simp ring (omega arith)
+  pos-scaled c z h = same-flag _ _ (λ t. cancel-lt (pos 0) z c h (rw (zero-*ℤ c) (ltZ-yes t)) .lt) (λ t. (rw (zero-*ℤ c) at (mul-mono-lt (pos 0) z c (ltZ-yes t) h)) .lt)
 
   tst-scaled : (s t : Bool) (c z : ℤ) → pos 0 <ℤ c → tst s t (z *ℤ c) ≡ tst s t z
   tst-scaled true true c z h = refl

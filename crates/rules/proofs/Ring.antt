@@ -1,7 +1,7 @@
 -- The way round a ring. Assumes nothing.
-use mathlib.Core.Path.{_≡_, refl}
+use mathlib.Core.Path.{_≡_}
 use mathlib.Core.Logic.{_⊎_, inl, inr, ⊎-elim}
-use Prim.Native.Nat.{ℕ, zero, suc, _≤_, _<_}
+use Prim.Native.Nat.{ℕ, suc, _≤_, _<_}
 use native.Mathlib.Omega.{arith}
 use Rattle.whole.proofs.Order.{ℕ-or}
 use Rattle.whole.proofs.Flag.{eq-self, lt-not-eq, gt-not-eq}

@@ -1,11 +1,11 @@
 -- Two closed segments have no point in common exactly when one of eight strict separations holds. Assumes nothing.
-use mathlib.Core.Path.{_≡_, refl, sym, ap, _∙_}
+use mathlib.Core.Path.{_≡_, sym, ap, _∙_}
 use mathlib.Core.Logic.{_⊎_, inl, inr, ⊎-elim}
 use native.Mathlib.Omega.{arith}
-use lib.IntN.{ℤ, pos, negsuc, negℤ, _+ℤ_, _-ℤ_, _*ℤ_, +ℤ-invr}
+use lib.IntN.{ℤ, pos, negℤ, _+ℤ_, _-ℤ_, _*ℤ_, +ℤ-invr}
 use lib.Signed.{_≤ℤ_, _<ℤ_}
-use Rattle.whole.proofs.Difference.{all, all2, all3, all4, ring}
-use Rattle.whole.proofs.Polynomial.{vars4, vars6, vars7, vars8, vars10, poly, num-val, by-ring}
+use Rattle.whole.proofs.Difference.{all2, all3, all4, ring}
+use Rattle.whole.proofs.Polynomial.{vars3, vars4, vars6, vars7, vars8, vars10, poly, num-val, by-ring}
 use Rattle.whole.proofs.Order.{np-mul, pos-neg-mul, neg-not, pos-not, turn-le, turn-ge, turn-gt, le-sub, lt-sub, sub-mono, sub-lt, sub-le, le-trans, lt-le, le-or-lt, clash, Tri, less, same, more, tri}
 use Rattle.rules.specs.Ring.{Pt}
 
@@ -44,12 +44,22 @@ pub record Common (a b p q : Pt) : Type 0 where
   pub x : (n -ℤ i) *ℤ a .x +ℤ i *ℤ b .x ≡ (n -ℤ j) *ℤ p .x +ℤ j *ℤ q .x
   pub y : (n -ℤ i) *ℤ a .y +ℤ i *ℤ b .y ≡ (n -ℤ j) *ℤ p .y +ℤ j *ℤ q .y
 
--- a mean from the other end, and n times it
+-- a mean that has none of the second in it, a mean from the other end, and n times one
+pub mean-none : (n u v : ℤ) → (n -ℤ pos 0) *ℤ u +ℤ pos 0 *ℤ v ≡ n *ℤ u
+mean-none = vars3 _ λ ρ. simp (poly, num-val ρ) (by-ring _ _ _ tt)
+
 pub mean-turn : (n i u v : ℤ) → (n -ℤ i) *ℤ u +ℤ i *ℤ v ≡ (n -ℤ (n -ℤ i)) *ℤ v +ℤ (n -ℤ i) *ℤ u
 mean-turn = vars4 _ λ ρ. simp poly (by-ring _ _ _ tt)
 
 pub mean-times : (n i u v : ℤ) → n *ℤ ((n -ℤ i) *ℤ u +ℤ i *ℤ v) ≡ (n -ℤ i) *ℤ (n *ℤ u) +ℤ i *ℤ (n *ℤ v)
 mean-times = vars4 _ λ ρ. simp poly (by-ring _ _ _ tt)
+
+-- the point of the line a b at p's x, over the difference of a's x and b's: its x, and how far its y is below p's
+pub mean-at : (a b p : ℤ) → (b -ℤ a) *ℤ p ≡ ((b -ℤ a) -ℤ (p -ℤ a)) *ℤ a +ℤ (p -ℤ a) *ℤ b
+mean-at = vars3 _ λ ρ. simp poly (by-ring _ _ _ tt)
+
+pub gap-at : (ax ay bx by px py : ℤ) → (bx -ℤ ax) *ℤ py -ℤ (((bx -ℤ ax) -ℤ (px -ℤ ax)) *ℤ ay +ℤ (px -ℤ ax) *ℤ by) ≡ side ax ay bx by px py
+gap-at = vars6 _ λ ρ. simp poly (by-ring _ _ _ tt)
 
 -- a weighted sum of two negative numbers is negative
 pub mix : (n j u v : ℤ) → pos 0 <ℤ n → pos 0 ≤ℤ j → j ≤ℤ n → u <ℤ pos 0 → v <ℤ pos 0 → ((n -ℤ j) *ℤ u +ℤ j *ℤ v) <ℤ pos 0
@@ -127,13 +137,7 @@ locate u v w =
     (λ h. ⊎-elim (λ k. down k (lt-le w u h)) (λ k. low h k) (le-or-lt v w)) (le-or-lt u w)
 
 -- p, on the line a b, lies between a and b
-x-up : (ax bx px qx : ℤ) → ((bx -ℤ ax) -ℤ (px -ℤ ax)) *ℤ ax +ℤ (px -ℤ ax) *ℤ bx ≡ ((bx -ℤ ax) -ℤ pos 0) *ℤ px +ℤ pos 0 *ℤ qx
-x-up = vars4 _ λ ρ. simp (poly, num-val ρ) (by-ring _ _ _ tt)
-
-y-up : (ax ay bx by px py qx qy : ℤ) → ((bx -ℤ ax) -ℤ (px -ℤ ax)) *ℤ ay +ℤ (px -ℤ ax) *ℤ by ≡ (((bx -ℤ ax) -ℤ pos 0) *ℤ py +ℤ pos 0 *ℤ qy) -ℤ side ax ay bx by px py
-y-up = vars8 _ λ ρ. simp (poly, num-val ρ) (by-ring _ _ _ tt)
-
-sub-zero : (u v w : ℤ) → u ≡ v -ℤ w → w ≡ pos 0 → u ≡ v
+sub-zero : (u v w : ℤ) → v -ℤ u ≡ w → w ≡ pos 0 → u ≡ v
 sub-zero = all3 _ λ a a′ b b′ c c′. simp ring (omega arith)
 
 on-up : (a b p q : Pt) → o a b p ≡ pos 0 → a .x <ℤ b .x → a .x ≤ℤ p .x → p .x ≤ℤ b .x → Common a b p q
@@ -146,8 +150,8 @@ on-up a b p q z h k l = record {
   i-high = sub-mono (a .x) (p .x) (b .x) l;
   j-low = record { le = tt };
   j-high = lt-le _ _ (lt-sub _ _ h);
-  x = x-up (a .x) (b .x) (p .x) (q .x);
-  y = sub-zero _ _ _ (y-up (a .x) (a .y) (b .x) (b .y) (p .x) (p .y) (q .x) (q .y)) z;
+  x = sym (mean-none (b .x -ℤ a .x) (p .x) (q .x) ∙ mean-at (a .x) (b .x) (p .x));
+  y = sub-zero _ _ _ (gap-at (a .x) (a .y) (b .x) (b .y) (p .x) (p .y)) z ∙ sym (mean-none (b .x -ℤ a .x) (p .y) (q .y));
 }
 
 -- p and q change places
@@ -255,7 +259,7 @@ tr-common : (a b p q : Pt) → Common (tr a) (tr b) (tr p) (tr q) → Common a b
 tr-common a b p q c = record { n = c .n; i = c .i; j = c .j; some = c .some; i-low = c .i-low; i-high = c .i-high; j-low = c .j-low; j-high = c .j-high; x = c .y; y = c .x }
 
 at-one : (u v s t : ℤ) → u ≡ s → (pos 1 -ℤ pos 0) *ℤ u +ℤ pos 0 *ℤ v ≡ (pos 1 -ℤ pos 0) *ℤ s +ℤ pos 0 *ℤ t
-at-one = all4 _ λ a a′ b b′ c c′ d d′. simp ring (omega arith)
+at-one u v s t e = mean-none (pos 1) u v ∙ ap (λ z. pos 1 *ℤ z) e ∙ sym (mean-none (pos 1) s t)
 
 -- ranges apart, of x or of y, have the segments apart
 pub by-x : (a b p q : Pt) → Sep (a .x) (b .x) (p .x) (q .x) → Apart a b p q

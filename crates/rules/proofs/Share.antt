@@ -1,15 +1,15 @@
 -- Two edges share a point exactly when `Common` holds; two neighbours fold exactly when an outer end lies on the other edge. Assumes nothing.
-use mathlib.Core.Path.{_≡_, refl, sym, ap, _∙_}
+use mathlib.Core.Path.{_≡_, sym, ap, _∙_}
 use mathlib.Core.Logic.{_⊎_, inl, inr, ⊎-elim}
 use native.Mathlib.Omega.{arith}
 use lib.IntN.{ℤ, pos, _+ℤ_, _-ℤ_, _*ℤ_, *ℤ-comm}
 use lib.Signed.{_≤ℤ_, _<ℤ_}
-use Rattle.whole.proofs.Difference.{all, all2, all3, all4, ring}
+use Rattle.whole.proofs.Difference.{all, ring}
 use Rattle.whole.proofs.Order.{mul-swap, le-lt-trans, antisym, cancel-eq, pos-mul, nn-mul, lt-le, le-or-lt, le-sub, mul-mono, not-lt, clash}
-use Rattle.whole.proofs.Polynomial.{vars2, vars3, vars4, vars6, poly, num-val, by-ring}
+use Rattle.whole.proofs.Polynomial.{vars3, vars4, vars6, poly, num-val, by-ring}
 use Rattle.rules.specs.Ring.{Pt, times, On, Share}
 use Rattle.rules.specs.Good.{Fold}
-use Rattle.rules.proofs.Segment.{Apart, Common, mean-times, apart, decide}
+use Rattle.rules.proofs.Segment.{Apart, Common, mean-none, mean-times, apart, decide}
 use Rattle.rules.proofs.On.{on-turn}
 
 pub pt-eq : (p q : Pt) → p .x ≡ q .x → p .y ≡ q .y → p ≡ q
@@ -20,7 +20,7 @@ widen : (m n i k a b : ℤ) → ((m *ℤ n -ℤ n *ℤ i) *ℤ a +ℤ (n *ℤ i)
 widen = vars6 _ λ ρ. simp poly (by-ring _ _ _ tt)
 
 widen′ : (m n j k c d : ℤ) → ((m *ℤ n -ℤ m *ℤ j) *ℤ c +ℤ (m *ℤ j) *ℤ d) *ℤ k ≡ m *ℤ ((n -ℤ j) *ℤ (k *ℤ c) +ℤ j *ℤ (k *ℤ d))
-widen′ = vars6 _ λ ρ. simp poly (by-ring _ _ _ tt)
+widen′ m n j k c d = rw (*ℤ-comm m n) (widen n m j k c d)
 
 joined : (k m n i j p a b c d : ℤ) → pos 0 <ℤ k → m *ℤ p ≡ (m -ℤ i) *ℤ (k *ℤ a) +ℤ i *ℤ (k *ℤ b) → n *ℤ p ≡ (n -ℤ j) *ℤ (k *ℤ c) +ℤ j *ℤ (k *ℤ d) → (m *ℤ n -ℤ n *ℤ i) *ℤ a +ℤ (n *ℤ i) *ℤ b ≡ (m *ℤ n -ℤ m *ℤ j) *ℤ c +ℤ (m *ℤ j) *ℤ d
 joined k m n i j p a b c d h e f =
@@ -98,10 +98,7 @@ fold-by a b c p h k n = record { m = pos 1; p = p; some = record { lt = tt }; fi
 
 -- the ends of an edge are on it
 pub on-start : (a b : Pt) → On a a b
-on-start a b = record { m = pos 1; i = pos 0; some = record { lt = tt }; low = record { le = tt }; high = record { le = tt }; x = at-start (a .x) (b .x); y = at-start (a .y) (b .y) }
-  where
-    at-start : (a b : ℤ) → pos 1 *ℤ a ≡ (pos 1 -ℤ pos 0) *ℤ a +ℤ pos 0 *ℤ b
-    at-start = vars2 _ λ ρ. simp (poly, num-val ρ) (by-ring _ _ _ tt)
+on-start a b = record { m = pos 1; i = pos 0; some = record { lt = tt }; low = record { le = tt }; high = record { le = tt }; x = sym (mean-none (pos 1) (a .x) (b .x)); y = sym (mean-none (pos 1) (a .y) (b .y)) }
 
 pub on-end : (a b : Pt) → On b a b
 on-end a b = on-turn b b a (on-start b a)
@@ -138,10 +135,7 @@ nearer α β a b c e = left β b c ∙ ap (λ z. z +ℤ β *ℤ b) (sym e) ∙ r
 
 -- no part of the way from b
 none-of : (k n j p b c : ℤ) → pos 0 <ℤ n → j ≡ pos 0 → n *ℤ p ≡ (n -ℤ j) *ℤ (k *ℤ b) +ℤ j *ℤ (k *ℤ c) → p ≡ k *ℤ b
-none-of k n j p b c h z e = cancel-eq _ _ n h (*ℤ-comm p n ∙ e ∙ ap (λ i. (n -ℤ i) *ℤ (k *ℤ b) +ℤ i *ℤ (k *ℤ c)) z ∙ go n (k *ℤ b) (k *ℤ c))
-  where
-    go : (n b c : ℤ) → (n -ℤ pos 0) *ℤ b +ℤ pos 0 *ℤ c ≡ b *ℤ n
-    go = vars3 _ λ ρ. simp (poly, num-val ρ) (by-ring _ _ _ tt)
+none-of k n j p b c h z e = cancel-eq _ _ n h (*ℤ-comm p n ∙ e ∙ ap (λ i. (n -ℤ i) *ℤ (k *ℤ b) +ℤ i *ℤ (k *ℤ c)) z ∙ mean-none n (k *ℤ b) (k *ℤ c) ∙ *ℤ-comm n (k *ℤ b))
 
 no-part : (m j : ℤ) → pos 0 <ℤ m → pos 0 ≤ℤ j → (j *ℤ m) ≤ℤ pos 0 → j ≡ pos 0
 no-part m j h k l = antisym j (pos 0) (not-lt j (pos 0) (λ q. clash _ _ (pos-mul j m q h) l)) k

@@ -1,15 +1,14 @@
 -- What is good and where a point lies, computed: the answers that the public calls must give. Assumes nothing.
-use mathlib.Core.Path.{_≡_, refl, sym, ap, subst, _∙_}
+use mathlib.Core.Path.{_≡_, refl, sym, _∙_}
 use mathlib.Core.Bool.{Bool, true, false, not, cond, _&&_, _||_}
-use mathlib.Core.Logic.{_⊎_, inl, inr, ⊎-elim}
-use mathlib.Core.List.{List, [], _∷_}
+use mathlib.Core.Logic.{inl, inr, ⊎-elim}
+use mathlib.Core.List.{List}
 use Prim.Native.Nat.{ℕ, zero, suc, _+_, _*_, _/_, _%_, _≤_, _<_}
 use native.Mathlib.Omega.{arith}
-use native.Mathlib.Numerals.{add-one}
 use lib.Dec.{eqb, leb, ltb}
 use lib.IntN.{ℤ, pos, negsuc}
 use lib.ListN.{length, getD}
-use lib.Signed.{_≤ℤ_, leZ, ltZ}
+use lib.Signed.{leZ, ltZ}
 use borrow.Author.Tests.{eqb-true, eq-eqb, leb-true, le-leb, ltb-true, lt-ltb, le-ltb}
 use Rattle.whole.proofs.Order.{ℕ-or}
 use Rattle.whole.proofs.Flag.{decided, false-true, or-yes, or-left, or-right, and-yes, and-both, le-true, lt-true, lt-false, true-le}
@@ -20,7 +19,7 @@ use Rattle.rules.specs.Verdict as rules
 use Rattle.rules.specs.Verdict.{Answer, clear, blocked, verdictChecks, answer}
 use Rattle.rules.proofs.Checks.{passes-append, fault-left, fault-right}
 use Rattle.rules.specs.Good.{Sized, Same, Meet, FirstMeet, area, runNumber, bandNumber, runChecks, sizedCheck, bandCheck, shapeChecks, footprintChecks, pieceChecks}
-use Rattle.rules.specs.Place.{Where, on, inside, outside, Counted, Count, start, more, pass, Place, pointNumber, placeChecks}
+use Rattle.rules.specs.Place.{Where, on, inside, outside, Count, start, more, pass, Place, pointNumber, placeChecks}
 use Rattle.rules.proofs.Reach.{between-stable, run-known}
 use Rattle.rules.proofs.Crossing.{flag}
 use Rattle.rules.proofs.Counted.{counted-yes, yes-counted}

@@ -2,12 +2,12 @@
 use mathlib.Core.Path.{_≡_, refl, sym, subst}
 use mathlib.Core.Logic.{_⊎_, inl, inr}
 use mathlib.Core.Bool.{Bool, true, false, not, cond, _&&_, _||_}
-use Prim.Native.Nat.{ℕ, _<_, _≤_}
+use Prim.Native.Nat.{ℕ, _<_}
 use native.Mathlib.Omega.{arith}
 use lib.Dec.{T, eqb, eqb→eq, eqb-refl}
 use lib.IntN.{ℤ}
 use lib.Signed.{_≤ℤ_, _<ℤ_, leZ, ltZ, ltZ-no}
-use Rattle.whole.proofs.Order.{not-le, clash, lt-le}
+use Rattle.whole.proofs.Order.{not-le, clash}
 
 pub is-true : (t : Bool) → T t → t ≡ true
 is-true true h = refl

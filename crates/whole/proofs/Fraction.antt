@@ -6,7 +6,7 @@ use lib.IntN.{ℤ, pos, _+ℤ_, _*ℤ_, *ℤ-comm}
 use lib.Signed.{_≤ℤ_, _<ℤ_, quotZ}
 use Rattle.whole.specs.Fraction.{Frac, _≼_, _≺_, mark, Floor}
 use Rattle.whole.proofs.Difference.{all2, ring}
-use Rattle.whole.proofs.Order.{mul-swap-r, le-or-lt, le-trans, lt-le, clash, antisym, eq-le, mul-mono, cancel, nn-mul, pos-mul}
+use Rattle.whole.proofs.Order.{mul-swap-r, le-or-lt, le-trans, lt-le, clash, eq-le, mul-mono, cancel, nn-mul, pos-mul}
 use Rattle.whole.proofs.Polynomial.{vars3, poly, by-ring}
 use Rattle.whole.proofs.Range.{quot}
 

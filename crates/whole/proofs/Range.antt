@@ -1,6 +1,6 @@
 -- Magnitudes, as naturals that `omega` reads: `natAbs z`; what fits a machine's width; what a machine reads back. Assumes nothing.
-use mathlib.Core.Path.{_≡_, refl, subst, sym, ap, _∙_}
-use Prim.Native.Nat.{ℕ, zero, suc, _+_, _*_, _-_, _/_, _%_, _^_, _≤_, _<_}
+use mathlib.Core.Path.{_≡_, refl, _∙_}
+use Prim.Native.Nat.{ℕ, zero, suc, _+_, _*_, _/_, _^_, _≤_, _<_}
 use native.Mathlib.Omega.{arith}
 use native.Mathlib.Nat.{mul-le-mul, div-add-mod', mod-lt, div-le-self}
 use native.Mathlib.Nat.{zero-add, add-zero}
@@ -10,8 +10,8 @@ use lib.Dec.{T, leb, ltb, leb→le, le→leb, ltb→lt, lt→ltb}
 use mathlib.Core.Bool.{Bool, true, false, _&&_}
 use Rattle.whole.proofs.Flag.{lt-true, lt-false}
 use lib.IntN.{ℤ, pos, negsuc, negℤ, natAbs, _+ℤ_, _-ℤ_, _*ℤ_}
-use lib.Signed.{_≤ℤ_, _<ℤ_, mag, leZ, ltZ, quotZ, nonNeg}
-use mir.Syntax.{Width, w8, w16, w32, w64, w128}
+use lib.Signed.{_≤ℤ_, _<ℤ_, mag, ltZ, quotZ, nonNeg}
+use mir.Syntax.{Width, w64}
 use mir.Val.{SFits, hbits, toZ, ofZ}
 use mir.Facts.{toZ-ofZ, sfits-lit, and-yes}
 use Rattle.whole.proofs.Difference.{all, all4, ring}
