@@ -6,7 +6,7 @@ use lib.IntN.{ℤ, pos, negℤ, _+ℤ_, _-ℤ_, _*ℤ_, +ℤ-invr}
 use lib.Signed.{_≤ℤ_, _<ℤ_}
 use Rattle.whole.proofs.Difference.{all2, all3, all4, ring}
 use Rattle.whole.proofs.Polynomial.{vars3, vars4, vars6, vars7, vars8, vars10, poly, num-val, by-ring}
-use Rattle.whole.proofs.Order.{np-mul, pos-neg-mul, neg-not, pos-not, turn-le, turn-ge, turn-gt, le-sub, lt-sub, sub-mono, sub-lt, sub-le, le-trans, lt-le, le-or-lt, clash, Tri, less, same, more, tri}
+use Rattle.whole.proofs.Order.{np-mul, pos-neg-mul, neg-not, pos-not, turn-le, turn-ge, turn-gt, le-sub, lt-sub, sub-mono, sub-lt, sub-le, le-trans, le-lt-trans, lt-le, le-or-lt, clash, Tri, less, same, more, tri}
 use Rattle.rules.specs.Ring.{Pt}
 
 -- twice the side of a b p, positive where p is to the left of a → b
@@ -71,11 +71,8 @@ mix n j u v hn h k hu hv = ⊎-elim (λ z. at-zero z) (λ z. past z) (le-or-lt j
     sum′ : (x y : ℤ) → x ≤ℤ pos 0 → y <ℤ pos 0 → (x +ℤ y) <ℤ pos 0
     sum′ = all2 _ λ a a′ b b′. simp ring (omega arith)
 
-    less : (n j : ℤ) → pos 0 <ℤ n → j ≤ℤ pos 0 → pos 0 <ℤ (n -ℤ j)
-    less = all2 _ λ a a′ b b′. simp ring (omega arith)
-
     at-zero : j ≤ℤ pos 0 → ((n -ℤ j) *ℤ u +ℤ j *ℤ v) <ℤ pos 0
-    at-zero z = sum _ _ (pos-neg-mul (n -ℤ j) u (less n j hn z) hu) (np-mul j v h (lt-le _ _ hv))
+    at-zero z = sum _ _ (pos-neg-mul (n -ℤ j) u (lt-sub _ _ (le-lt-trans _ _ _ z hn)) hu) (np-mul j v h (lt-le _ _ hv))
 
     past : pos 0 <ℤ j → ((n -ℤ j) *ℤ u +ℤ j *ℤ v) <ℤ pos 0
     past z = sum′ _ _ (np-mul (n -ℤ j) u (le-sub _ _ k) (lt-le _ _ hu)) (pos-neg-mul j v z hv)
@@ -136,10 +133,10 @@ locate u v w =
     ⊎-elim (λ h. ⊎-elim (λ k. up h k) (λ k. ⊎-elim (λ l. down (lt-le v w k) l) (λ l. high l k) (le-or-lt w u)) (le-or-lt w v))
     (λ h. ⊎-elim (λ k. down k (lt-le w u h)) (λ k. low h k) (le-or-lt v w)) (le-or-lt u w)
 
--- p, on the line a b, lies between a and b
 sub-zero : (u v w : ℤ) → v -ℤ u ≡ w → w ≡ pos 0 → u ≡ v
 sub-zero = all3 _ λ a a′ b b′ c c′. simp ring (omega arith)
 
+-- p, on the line a b, lies between a and b
 on-up : (a b p q : Pt) → o a b p ≡ pos 0 → a .x <ℤ b .x → a .x ≤ℤ p .x → p .x ≤ℤ b .x → Common a b p q
 on-up a b p q z h k l = record {
   n = b .x -ℤ a .x;
