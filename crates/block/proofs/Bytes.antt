@@ -4,7 +4,6 @@ use mathlib.Core.Logic.{_⊎_, inl, inr, ⊎-elim}
 use mathlib.Core.List.{List, [], _∷_, _++_}
 use Prim.Native.Nat.{ℕ, zero, suc, _+_, _*_, _-_, _%_, _≤_, _<_}
 use native.Mathlib.Omega.{arith}
-use borrow.Author.Count.{below-more}
 use lib.ListN.{length, getD, set, replicate, length-append, length-set, length-replicate, List·getD-append}
 use lib.Seq.{getD-append-add, getD-set-same, getD-set-other, ext-getD}
 use Rattle.whole.proofs.Order.{ℕ-or}
@@ -30,15 +29,6 @@ filled-at n l i = padded l (n - length l) i
 pub filled-length : (n : ℕ) (l : List ℕ) → length l ≤ n → length (filled n l) ≡ n
 unfolding filled
 filled-length n l h = omega (arith, length-append l (replicate (n - length l) 0), length-replicate {A = ℕ} (n - length l) 0)
-
--- one more element is stored: those up to it are right
-pub stored : {A : Type 0} (d : A) (l m : List A) (i : ℕ) (a : A) → i < length l → ((k : ℕ) → k < i → getD l k d ≡ getD m k d) → a ≡ getD m i d → (k : ℕ) → k < i + 1 → getD (set l i a) k d ≡ getD m k d
-stored {A} d l m i a h before e =
-    below-more (λ k. getD (set l i a) k d ≡ getD m k d) i
-    (λ k g. getD-set-other l i k a d (λ q. ne k i g q) ∙ before k g) (getD-set-same l i a d h ∙ e)
-  where
-    ne : (k i : ℕ) → k < i → k ≡ i → ⊥
-    ne k i g q = omega arith
 
 -- ---- the sums
 pub sum-same : (f g : ℕ → ℕ) (n : ℕ) → ((i : ℕ) → i < n → f i ≡ g i) → sum f n ≡ sum g n
@@ -128,9 +118,6 @@ module _ (m : List ℕ) (long : length m ≡ 512) where
   sealing : List ℕ
   sealing = set (set m 510 (plainSum m)) 511 (weighedSum m)
 
-  apart : (i j : ℕ) → i < j → i ≡ j → ⊥
-  apart i j h e = omega arith
-
   sealing-length : length sealing ≡ 512
   unfolding sealing
   sealing-length = length-set (set m 510 (plainSum m)) 511 (weighedSum m) ∙ (length-set m 510 (plainSum m) ∙ long)
@@ -138,8 +125,8 @@ module _ (m : List ℕ) (long : length m ≡ 512) where
   sealing-at : (i : ℕ) → i < 510 → byte sealing i ≡ byte m i
   unfolding sealing
   sealing-at i h =
-      getD-set-other (set m 510 (plainSum m)) 511 i (weighedSum m) 0 (apart i 511 (omega arith))
-      ∙ getD-set-other m 510 i (plainSum m) 0 (apart i 510 h)
+      getD-set-other (set m 510 (plainSum m)) 511 i (weighedSum m) 0 (λ e. omega arith)
+      ∙ getD-set-other m 510 i (plainSum m) 0 (λ e. omega arith)
 
   sealing-sealed : Sealed sealing
   unfolding sealing
@@ -147,7 +134,7 @@ module _ (m : List ℕ) (long : length m ≡ 512) where
       let n = set m 510 (plainSum m) in let same : Alike m sealing = λ i h. sym (sealing-at i h) in
       record {
         first =
-            getD-set-other n 511 510 (weighedSum m) 0 (apart 510 511 (omega arith))
+            getD-set-other n 511 510 (weighedSum m) 0 (λ e. omega arith)
             ∙ (getD-set-same m 510 (plainSum m) 0 (omega arith) ∙ plain-same m sealing same);
         second =
             getD-set-same n 511 (weighedSum m) 0 (rw (length-set m 510 (plainSum m)) (omega arith))

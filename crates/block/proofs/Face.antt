@@ -1,39 +1,19 @@
--- What a scan found, as a check: the bytes that must be zero, and the name. Assumes nothing.
+-- The bytes of a block that are no numbers, one check after the other. Assumes nothing.
 use mathlib.Core.Path.{_≡_, sym, ap, _∙_}
-use mathlib.Core.Logic.{_⊎_, inl, inr, ⊎-elim}
+use mathlib.Core.Logic.{⊎-elim}
 use mathlib.Core.List.{List, [], _∷_}
 use Prim.Native.Nat.{ℕ, _+_, _*_, _-_, _≤_, _<_}
 use native.Mathlib.Omega.{arith}
-use lib.ListN.{length, getD, List·getD-eq-default}
+use lib.ListN.{length, List·getD-eq-default}
 use Rattle.whole.proofs.Order.{ℕ-or}
 use Rattle.rules.specs.Reach.{Corners, Pieces}
-use Rattle.rules.specs.Refusal.{refuse, Passes, Fault}
 use Rattle.refusal.specs.Said.{Finds}
+use Rattle.refusal.proofs.Finds.{finds-after}
 use Rattle.refusal.specs.declared.Checked.{Checked}
-use Rattle.refusal.specs.declared.Checked.the-variants.{Good, Refused}
-use Rattle.block.specs.Layout.{byte, name, blockOf}
-use Rattle.block.specs.Reading.{unnamedCheck, headerBytes, runBytes, pieceBytes}
+use Rattle.block.specs.Layout.{byte, blockOf}
+use Rattle.block.specs.Reading.{Named, Misspelt, unnamedCheck, headerBytes, runBytes, pieceBytes}
+use Rattle.block.specs.Scan.{Clean}
 use Rattle.block.proofs.Bytes.{block-at}
-use Rattle.block.specs.Scan.{FirstByte, FirstLetter}
-
-module _ (l : List ℕ) (from r : ℕ) (f : FirstByte l from r) where
-  pub unnamed-bad : r < 510 → Fault (unnamedCheck l from ∷ []) (refuse 3 r 0)
-  unnamed-bad h =
-      let u = f .above in let e : from + (r - from) ≡ r = omega arith in
-      inl (
-        r - from,
-        record { below = omega arith; bad = rw e (f .found h); before = λ j g b. b (f .before (from + j) (omega arith) (omega arith)) },
-        ap (λ n. refuse 3 n 0) (sym e),
-      )
-
--- every letter is the name's
-pub letters : (l : List ℕ) (r : ℕ) → FirstLetter l r → 4 ≤ r → (j : ℕ) → j < 4 → (byte l j ≡ getD name j 0 → ⊥) → ⊥
-letters l r f h j g b = b (f .before j (omega arith))
-
-pub header-last : (l : List ℕ) (r : Checked) → ((j : ℕ) → j < 4 → (byte l j ≡ getD name j 0 → ⊥) → ⊥) → byte l 4 ≡ 1 → Pieces (byte l 5) → Finds (unnamedCheck l 6 ∷ []) r → Finds (headerBytes l) r
-unfolding headerBytes
-header-last l Good a b c f = (a, (b, (c, f)))
-header-last l (Refused x) a b c f = inr (a, inr (b, inr (c, f)))
 
 -- what is not otherwise is so
 pub stable : (a b : ℕ) → ((a ≡ b → ⊥) → ⊥) → a ≡ b
@@ -43,6 +23,14 @@ stable a b f =
     (λ (h : b < a). absurd (f (λ e. omega arith)))
     (ℕ-or a b)
 
+-- no byte that must be zero is not
+pub clean-from : (l : List ℕ) (from : ℕ) → ((j : ℕ) → j < 510 - from → Named l from j → ⊥) → Clean l from 510
+clean-from l from f i h k = let e : from + (i - from) ≡ i = omega arith in ap (byte l) (sym e) ∙ stable (byte l (from + (i - from))) 0 (f (i - from) (omega arith))
+
+pub header-last : (l : List ℕ) (r : Checked) → ((j : ℕ) → j < 4 → Misspelt l j → ⊥) → byte l 4 ≡ 1 → Pieces (byte l 5) → Finds (unnamedCheck l 6 ∷ []) r → Finds (headerBytes l) r
+unfolding headerBytes
+header-last l r a b c f = finds-after _ _ r a (finds-after _ _ r b (finds-after _ _ r c f))
+
 -- past its first bytes a block is zero
 pub unnamed-front : (front : List ℕ) (from : ℕ) → length front ≤ 510 → length front ≤ from → unnamedCheck (blockOf front) from .passes
 unnamed-front front from few h j k b =
@@ -51,10 +39,8 @@ unnamed-front front from few h j k b =
 
 pub run-last : (l : List ℕ) (r : Checked) → byte l 0 ≡ 2 → byte l 1 ≡ 0 → Finds (unnamedCheck l 16 ∷ []) r → Finds (runBytes l) r
 unfolding runBytes
-run-last l Good a b f = (a, (b, f))
-run-last l (Refused x) a b f = inr (a, inr (b, f))
+run-last l r a b f = finds-after _ _ r a (finds-after _ _ r b f)
 
 pub piece-last : (l : List ℕ) (r : Checked) → byte l 0 ≡ 1 → Corners (byte l 1) → Finds (unnamedCheck l (12 + 4 * byte l 1) ∷ []) r → Finds (pieceBytes l) r
 unfolding pieceBytes
-piece-last l Good a b f = (a, (b, f))
-piece-last l (Refused x) a b f = inr (a, inr (b, f))
+piece-last l r a b f = finds-after _ _ r a (finds-after _ _ r b f)

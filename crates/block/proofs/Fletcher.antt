@@ -1,7 +1,7 @@
 -- The check of a block is an 8-bit Fletcher sum that starts at zero: two sums that run along the bytes, each kept modulo 255. Assumes nothing.
 use mathlib.Core.Path.{_≡_, refl, ap, _∙_}
 use mathlib.Core.List.{List}
-use Prim.Native.Nat.{ℕ, zero, suc, _+_, _*_, _-_, _%_, _≤_, _<_}
+use Prim.Native.Nat.{ℕ, zero, suc, _+_, _*_, _-_, _%_}
 use native.Mathlib.Nat.{add-mul}
 use native.Mathlib.Omega.{arith}
 use Rattle.block.specs.Layout.{byte, sum, plainSum, weighedSum}

@@ -9,7 +9,7 @@ use lib.ListN.{length, getD, set, length-set}
 use lib.Seq.{getD-set-same, getD-set-other}
 use Rattle.whole.proofs.Order.{ℕ-or}
 use Rattle.block.specs.Layout.{byte, word, words}
-use Rattle.block.proofs.Bytes.{stored}
+use Rattle.whole.proofs.Front.{stored}
 use Rattle.block.proofs.Words.{low-at, high-at}
 
 -- a store leaves what is elsewhere

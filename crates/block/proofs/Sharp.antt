@@ -1,8 +1,10 @@
 -- The checks of blocks are sharp: each list of bytes has at most one first fault. Assumes nothing.
+use mathlib.Core.Path.{_≡_}
 use mathlib.Core.List.{List, [], _∷_, _++_}
 use Prim.Native.Nat.{ℕ}
 use lib.IntN.{ℤ}
 use Rattle.rules.specs.Reach.{Run, Piece}
+use Rattle.rules.specs.Refusal.{Check}
 use Rattle.rules.specs.Good.{runChecks, pieceChecks}
 use Rattle.rules.proofs.Checks.{AllSharp, sharp-demand, sharp-each, sharp-append}
 use Rattle.rules.proofs.Good.{sharp-run, sharp-piece}
@@ -22,25 +24,17 @@ unfolding headerChecks headerBytes
 sharp-header l =
     sharp-append (blockChecks l) (headerBytes l) (sharp-block l) (sharp-each _ _ _, (sharp-demand _ _, (sharp-demand _ _, (sharp-each _ _ _, tt))))
 
-sharp-run-bytes : (l : List ℕ) → AllSharp (blockChecks l ++ runBytes l)
-unfolding runBytes
-sharp-run-bytes l = sharp-append (blockChecks l) (runBytes l) (sharp-block l) (sharp-demand _ _, (sharp-demand _ _, (sharp-each _ _ _, tt)))
+-- a block's bytes, and then what is in it
+sharp-held : {A : Type 0} (l : List ℕ) (bytes : List Check) (In : A → Type 0) (cs : A → List Check) → AllSharp bytes → ((a b : A) → In a → In b → a ≡ b) → ((a : A) → AllSharp (cs a)) → AllSharp ((blockChecks l ++ bytes) ++ (inside In cs ∷ []))
+sharp-held l bytes In cs s one all = sharp-append (blockChecks l ++ bytes) (inside In cs ∷ []) (sharp-append (blockChecks l) bytes (sharp-block l) s) (sharp-inside In cs one all, tt)
 
 pub sharp-run-block : (l : List ℕ) → AllSharp (runBlockChecks l)
-unfolding runBlockChecks
-sharp-run-block l =
-    sharp-append (blockChecks l ++ runBytes l) (inside (RunIn l) runChecks ∷ []) (sharp-run-bytes l)
-    (sharp-inside (RunIn l) runChecks (run-one l) sharp-run, tt)
-
-sharp-piece-bytes : (l : List ℕ) → AllSharp (blockChecks l ++ pieceBytes l)
-unfolding pieceBytes
-sharp-piece-bytes l = sharp-append (blockChecks l) (pieceBytes l) (sharp-block l) (sharp-demand _ _, (sharp-demand _ _, (sharp-each _ _ _, tt)))
+unfolding runBlockChecks runBytes
+sharp-run-block l = sharp-held l (runBytes l) (RunIn l) runChecks (sharp-demand _ _, (sharp-demand _ _, (sharp-each _ _ _, tt))) (run-one l) sharp-run
 
 pub sharp-piece-block : (l : List ℕ) → AllSharp (pieceBlockChecks l)
-unfolding pieceBlockChecks
-sharp-piece-block l =
-    sharp-append (blockChecks l ++ pieceBytes l) (inside (PieceIn l) pieceChecks ∷ []) (sharp-piece-bytes l)
-    (sharp-inside (PieceIn l) pieceChecks (piece-one l) sharp-piece, tt)
+unfolding pieceBlockChecks pieceBytes
+sharp-piece-block l = sharp-held l (pieceBytes l) (PieceIn l) pieceChecks (sharp-demand _ _, (sharp-demand _ _, (sharp-each _ _ _, tt))) (piece-one l) sharp-piece
 
 pub sharp-verdict-in : (r : Run) (l : List ℕ) → AllSharp (verdictInChecks r l)
 unfolding verdictInChecks

@@ -6,10 +6,10 @@ use Prim.Native.Nat.{ℕ}
 use lib.IntN.{ℤ}
 use Rattle.rules.specs.Reach as rules
 use Rattle.rules.specs.Reach.{Piece}
-use Rattle.rules.specs.Refusal.{Check, Passes, Fault}
+use Rattle.rules.specs.Refusal.{Passes, Fault}
 use Rattle.rules.specs.Good.{runChecks, pieceChecks}
 use Rattle.rules.specs.Verdict.{Answer, clear, blocked, Verdict, verdictChecks}
-use Rattle.rules.proofs.Checks.{AllSharp, never-both, passes-append}
+use Rattle.rules.proofs.Checks.{never-both, passes-append}
 use Rattle.refusal.specs.Said.{said, Writes}
 use Rattle.refusal.proofs.Unique.{refused-one, writes-one}
 use Rattle.refusal.specs.declared.Refusal.{Refusal}

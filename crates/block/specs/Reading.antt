@@ -43,17 +43,24 @@ abbrev pub byteCheck : List ℕ → ℕ → ℕ → Check
 byteCheck l i n = demand (byte l i ≡ n) (refuse 3 i 0)
 
 -- the bytes from here to 509 have no name, and are zero
+abbrev pub Named : List ℕ → ℕ → ℕ → Type 0
+Named l from j = byte l (from + j) ≡ 0 → ⊥
+
 abbrev pub unnamedCheck : List ℕ → ℕ → Check
-unnamedCheck l from = each (λ j. byte l (from + j) ≡ 0 → ⊥) (510 - from) (λ i. refuse 3 (from + i) 0)
+unnamedCheck l from = each (Named l from) (510 - from) (λ i. refuse 3 (from + i) 0)
 
 -- any block: length, then check
 unfoldable pub blockChecks : List ℕ → List Check
 blockChecks l = lengthCheck l ∷ sealCheck l ∷ []
 
+-- byte j is not that of the name
+abbrev pub Misspelt : List ℕ → ℕ → Type 0
+Misspelt l j = byte l j ≡ getD name j 0 → ⊥
+
 -- a header, by rising offset: the name, the edition, the piece count, the unnamed bytes
 unfoldable pub headerBytes : List ℕ → List Check
 headerBytes l =
-    each (λ j. byte l j ≡ getD name j 0 → ⊥) 4 (λ i. refuse 3 i 0)
+    each (Misspelt l) 4 (λ i. refuse 3 i 0)
     ∷ byteCheck l 4 1
     ∷ demand (Pieces (byte l 5)) (refuse 3 5 0)
     ∷ unnamedCheck l 6

@@ -24,19 +24,6 @@ pub record SumsAt (l : List ℕ) (at plain weighed : ℕ) : Type 0 where
   pub plain-most : plain ≤ 255 * length l
   pub weighed-most : weighed ≤ 130050 * length l
 
--- r is the first byte at or after `from` that is not zero, or 510
-pub record FirstByte (l : List ℕ) (from r : ℕ) : Type 0 where
-  pub above : from ≤ r
-  pub below : r ≤ 510
-  pub before : (k : ℕ) → from ≤ k → k < r → byte l k ≡ 0
-  pub found : r < 510 → byte l r ≡ 0 → ⊥
-
--- r is the first letter that is not the name's, or 4
-pub record FirstLetter (l : List ℕ) (r : ℕ) : Type 0 where
-  pub below : r ≤ 4
-  pub before : (k : ℕ) → k < r → byte l k ≡ getD name k 0
-  pub found : r < 4 → byte l r ≡ getD name r 0 → ⊥
-
 -- number j of a block stands at byte 2 + 2·j
 abbrev pub NumberAt : List ℕ → ℕ → ℤ → Type 0
 NumberAt l j z = Spelt (byte l (2 + 2 * j)) (byte l (3 + 2 * j)) z

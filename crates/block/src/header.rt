@@ -10,9 +10,10 @@ ghost use mathlib.Core.Path.{_≡_};
 ghost use Prim.Native.Nat.{_≤_, _<_};
 ghost use lib.ListN.{length, getD};
 ghost use Rattle.refusal.specs.Said.{Finds, Writes};
+ghost use Rattle.piece.specs.Decide.{Seeks};
 ghost use Rattle.block.specs.Layout.{name, headerBlock};
-ghost use Rattle.block.specs.Reading.{headerBytes, headerAsked, HeaderSays};
-ghost use Rattle.block.specs.Scan.{FirstLetter, HeaderFront};
+ghost use Rattle.block.specs.Reading.{Misspelt, headerBytes, headerAsked, HeaderSays};
+ghost use Rattle.block.specs.Scan.{HeaderFront};
 
 // 52 4F 4F 4D
 const NAME: [u8; 4] = [0x52, 0x4F, 0x4F, 0x4D];
@@ -26,7 +27,7 @@ fn letter(i: usize) -> u8
 
 fn first_letter(block: &[u8]) -> usize
     requires { ⌜ length (now block) ≡ 512 ⌝ }
-    ensures { λ r. ⌜ FirstLetter (now (block .entry)) r ⌝ }
+    ensures { λ r. ⌜ Seeks (Misspelt (now (block .entry))) 4 r ⌝ }
 {
     let mut i = 0;
     while i < 4 {

@@ -6,14 +6,14 @@ use refusal::Checked;
 use refusal::Refusal;
 ghost use mathlib.Core.Path.{_≡_};
 ghost use mathlib.Core.List.{[], _∷_};
-ghost use Prim.Native.Nat.{_+_, _*_, _≤_, _<_};
+ghost use Prim.Native.Nat.{_+_, _*_, _-_, _≤_, _<_};
 ghost use lib.ListN.{length};
 ghost use Rattle.refusal.specs.Said.{Finds};
-ghost use Rattle.piece.specs.Decide.{Decides};
+ghost use Rattle.piece.specs.Decide.{Decides, Seeks};
 ghost use Rattle.block.specs.Layout.{byte};
 ghost use Rattle.block.specs.Word.{Spelt};
-ghost use Rattle.block.specs.Reading.{unnamedCheck};
-ghost use Rattle.block.specs.Scan.{Clean, FirstByte, RunAt, BandAt, CornersAt};
+ghost use Rattle.block.specs.Reading.{Named, unnamedCheck};
+ghost use Rattle.block.specs.Scan.{Clean, RunAt, BandAt, CornersAt};
 
 // Whether the bytes from here up to there are zero. No byte ends the loop early, so that it can go by many bytes at a time.
 pub(crate) fn clean(block: &[u8], from: usize, to: usize) -> bool
@@ -47,18 +47,20 @@ pub(crate) fn alike(a: &[u8], b: &[u8]) -> bool
     other == 0
 }
 
-fn first_byte(block: &[u8], from: usize) -> usize
+// How many bytes are zero from here on.
+fn zeros_at(block: &[u8], from: usize) -> usize
     requires { ⌜ (from ≤ 510) × (length (now block) ≡ 512) ⌝ }
-    ensures { λ r. ⌜ FirstByte (now (block .entry)) from r ⌝ }
+    ensures { λ r. ⌜ Seeks (Named (now (block .entry)) from) (510 - from) r ⌝ }
+    ensures { λ r. ⌜ r ≤ 510 - from ⌝ }
 {
-    let mut i = from;
-    while i < 510 {
-        if block[i] != 0 {
-            return i;
+    let mut j = 0;
+    while j < 510 - from {
+        if block[from + j] != 0 {
+            return j;
         }
-        i += 1;
+        j += 1;
     }
-    i
+    j
 }
 
 pub(crate) fn check_unnamed(block: &[u8], from: usize) -> Checked
@@ -68,7 +70,7 @@ pub(crate) fn check_unnamed(block: &[u8], from: usize) -> Checked
     if clean(block, from, 510) {
         return Checked::Good;
     }
-    Checked::Refused(Refusal::Kind(first_byte(block, from)))
+    Checked::Refused(Refusal::Kind(from + zeros_at(block, from)))
 }
 
 pub(crate) fn number_at(block: &[u8], at: usize) -> i32

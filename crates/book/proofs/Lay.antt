@@ -10,7 +10,7 @@ use lib.Seq.{take-at, take-all, drop-at}
 use Rattle.whole.proofs.Flag.{false-true}
 use Rattle.rules.specs.Reach.{Run, Piece}
 use Rattle.rules.specs.Ring.{ring}
-use Rattle.rules.specs.Refusal.{Check, Passes, Fault}
+use Rattle.rules.specs.Refusal.{Check, Passes}
 use Rattle.rules.specs.Good.{PieceKnown, pieceChecks}
 use Rattle.rules.proofs.Checks.{AllSharp, never-both}
 use Rattle.refusal.specs.Said.{said, Writes}

@@ -6,12 +6,12 @@ use Prim.Native.Nat.{ℕ, suc, _+_, _*_, _≤_}
 use native.Mathlib.Omega.{arith}
 use lib.Dec.{T, eqb, ltb, ltb→lt, nltb→le, eqb→eq}
 use lib.IntN.{ℤ, pos, negsuc, negℤ, _*ℤ_}
-use lib.Signed.{_≤ℤ_, _<ℤ_, ≤ℤ-refl}
+use lib.Signed.{_≤ℤ_, _<ℤ_}
 use lib.Ieee.{Float, nan, inf, fin, below, level, lt, eq, up, down}
 use lib.Ieee.Fits.{and-l, and-r, and-i, eq→eqb}
 use Rattle.whole.specs.Fraction.{Frac, _≼_, _≺_, _≈_}
 use Rattle.whole.proofs.Difference.{_⊖_, pos-⊖, neg-⊖, ring}
-use Rattle.whole.proofs.Order.{antisym}
+use Rattle.whole.proofs.Order.{antisym, eq-le}
 use Rattle.whole.proofs.Flag.{yes-of, no-of, decided}
 use Rattle.whole.proofs.Fraction.{trans, apart, le-then-lt, lt-then-le}
 use Rattle.intake.specs.Number.{signed, value, Is}
@@ -73,9 +73,6 @@ level-back false a true b e = and-i (eqb a b) (eqb a 0) (eq→eqb (unsigned fals
 level-back true a false b e = and-i (eqb a b) (eqb a 0) (eq→eqb (unsigned true false a b e)) (eq→eqb (unlike-zero a b e))
 
 -- ---- equal fractions
-eq-le : (x y : ℤ) → x ≡ y → x ≤ℤ y
-eq-le x y e = subst (λ (z : ℤ). x ≤ℤ z) e (≤ℤ-refl x)
-
 pub ≈-≼ : (s t : Frac) → s ≈ t → s ≼ t
 ≈-≼ s t e = eq-le _ _ e
 

@@ -63,8 +63,11 @@ one-more Bad k h f j l b = ⊎-elim (λ (i : k ≤ j). let e : j ≡ k = omega a
 pub stop : (Bad : ℕ → Type 0) (n k : ℕ) → Below Bad k → Bad k → Seeks Bad n k
 stop Bad n k h b = record { before = λ j l i. h j l; found = λ l. b }
 
+pub seeks-end : (Bad : ℕ → Type 0) (n k : ℕ) → n ≤ k → Below Bad k → Seeks Bad n k
+seeks-end Bad n k e h = record { before = λ j l i. h j l; found = λ l. absurd (omega arith) }
+
 pub passed : (Bad : ℕ → Type 0) (n : ℕ) → Below Bad n → Seeks Bad n n
-passed Bad n h = record { before = λ j l i. h j l; found = λ l. absurd (omega arith) }
+passed Bad n h = seeks-end Bad n n (omega arith) h
 
 pub of-three : (P : ℕ → Type 0) → P 0 → P 1 → P 2 → (j : ℕ) → j < 3 → P j
 of-three P a b c zero l = a

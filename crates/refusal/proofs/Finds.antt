@@ -1,9 +1,8 @@
 -- What checks in a row find. Assumes nothing.
-use mathlib.Core.Logic.{inl, inr}
+use mathlib.Core.Logic.{inr}
 use mathlib.Core.List.{List, _∷_}
 use Rattle.rules.specs.Refusal.{Check}
-use Rattle.refusal.specs.Said.{said, Finds}
-use Rattle.refusal.specs.declared.Refusal.{Refusal}
+use Rattle.refusal.specs.Said.{Finds}
 use Rattle.refusal.specs.declared.Checked.{Checked}
 use Rattle.refusal.specs.declared.Checked.the-variants.{Good, Refused}
 

@@ -1,7 +1,7 @@
 -- A room image: a header and then its pieces, and what reading it finds. Assumes nothing.
 use mathlib.Core.Path.{_≡_}
 use mathlib.Core.List.{List, [], _∷_, _++_}
-use Prim.Native.Nat.{ℕ, suc, _+_, _*_, _%_, _≤_, _<_}
+use Prim.Native.Nat.{ℕ, suc, _*_, _<_}
 use lib.ListN.{length}
 use Rattle.rules.specs.Refusal as rules
 use Rattle.rules.specs.Refusal.{refuse, Check, Passes, Fault, demand}

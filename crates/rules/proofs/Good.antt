@@ -1,17 +1,15 @@
 -- The checks of runs, footprints and pieces are sharp: each input has at most one first fault. Assumes nothing.
-use mathlib.Core.Path.{_≡_, refl, sym, ap, _∙_}
-use mathlib.Core.Logic.{_⊎_, ⊎-elim}
-use mathlib.Core.List.{List, [], _∷_, _++_}
-use Prim.Native.Nat.{ℕ, _≤_, _<_}
-use native.Mathlib.Omega.{arith}
+use mathlib.Core.Path.{_≡_, sym, _∙_}
+use mathlib.Core.List.{List}
+use Prim.Native.Nat.{ℕ}
 use lib.IntN.{ℤ}
 use Rattle.rules.specs.Reach.{Run, Piece}
 use Rattle.rules.specs.Ring.{Pt, Ring, ring}
-use Rattle.rules.specs.Refusal.{Refusal, refuse}
-use Rattle.rules.specs.Good.{Meet, FirstMeet, runChecks, sizedCheck, bandCheck, shapeChecks, footprintChecks, pieceChecks}
+use Rattle.rules.specs.Refusal.{refuse}
+use Rattle.rules.specs.Good.{FirstMeet, runChecks, sizedCheck, bandCheck, shapeChecks, footprintChecks, pieceChecks}
 use Rattle.rules.specs.Place.{placeChecks}
 use Rattle.rules.specs.Verdict.{verdictChecks}
-use Rattle.rules.proofs.Checks.{only, Sharp, AllSharp, sharp-demand, sharp-each, sharp-append}
+use Rattle.rules.proofs.Checks.{only, AllSharp, sharp-demand, sharp-each, sharp-append}
 
 first-meet : (r : Ring) (i j h k : ℕ) → FirstMeet r i j → FirstMeet r h k → refuse 8 i j ≡ refuse 8 h k
 first-meet r i j h k f g =

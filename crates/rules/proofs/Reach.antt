@@ -1,16 +1,14 @@
 -- What good runs and good pieces are known to be, number by number. Assumes nothing.
-use mathlib.Core.Path.{_≡_}
-use mathlib.Core.Logic.{_⊎_, inl, inr, ⊎-elim}
-use Prim.Native.Nat.{ℕ, zero, suc, _≤_, _<_}
+use mathlib.Core.Logic.{⊎-elim}
+use Prim.Native.Nat.{ℕ, zero, suc, _<_}
 use native.Mathlib.Omega.{arith}
-use lib.IntN.{ℤ, pos}
-use lib.Signed.{_≤ℤ_, _<ℤ_}
-use lib.ListN.{length, getD}
+use lib.IntN.{ℤ}
+use lib.Signed.{_≤ℤ_}
 use Rattle.whole.proofs.Order.{le-or-lt, clash, ℕ-or}
-use Rattle.rules.specs.Reach.{Between, Reach, Ticks, Run, Piece}
+use Rattle.rules.specs.Reach.{Between, Ticks, Run, Piece}
 use Rattle.rules.specs.Refusal.{Passes}
 pub use Rattle.rules.specs.Good.{RunKnown, PieceKnown}
-use Rattle.rules.specs.Good.{Sized, runNumber, bandNumber, runChecks, pieceChecks, sizedCheck, bandCheck, shapeChecks}
+use Rattle.rules.specs.Good.{runNumber, bandNumber, runChecks, pieceChecks, sizedCheck, bandCheck, shapeChecks}
 
 -- what is not known to fail, holds: these facts are decided
 pub le-stable : (a b : ℤ) → ((a ≤ℤ b → ⊥) → ⊥) → a ≤ℤ b

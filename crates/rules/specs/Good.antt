@@ -1,13 +1,13 @@
 -- "Footprint, place and contact", the first paragraph: which runs, footprints and pieces are good, and the refusal of each that is not. Assumes nothing.
 use mathlib.Core.Path.{_≡_}
-use mathlib.Core.List.{List, [], _∷_, _++_}
+use mathlib.Core.List.{List, [], _∷_}
 use Prim.Native.Nat.{ℕ, zero, suc, _+_, _*_, _%_, _<_}
 use lib.IntN.{ℤ, pos, _+ℤ_, _-ℤ_, _*ℤ_}
 use lib.Signed.{_≤ℤ_, _<ℤ_}
 use lib.ListN.{length, getD}
-use Rattle.rules.specs.Reach.{Reach, Speed, Ticks, Corners, Vec, Run, Piece}
+use Rattle.rules.specs.Reach.{Reach, Speed, Ticks, Corners, Run, Piece}
 use Rattle.rules.specs.Ring.{Pt, times, Ring, ring, next, from, to, Neighbours, On, Share}
-use Rattle.rules.specs.Refusal.{Check, demand, First, each, refuse}
+use Rattle.rules.specs.Refusal.{Check, demand, each, refuse}
 
 -- count and even list length
 pub record Sized (l : List ℤ) : Type 0 where

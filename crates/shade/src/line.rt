@@ -4,7 +4,6 @@ use crate::text::put_number;
 use crate::text::put_word;
 use refusal::Refusal;
 use refusal::row_of;
-ghost use mathlib.Core.Path.{_≡_};
 ghost use Prim.Native.Nat.{_+_, _*_, _≤_};
 ghost use lib.ListN.{length};
 ghost use Rattle.refusal.specs.Said.{said};

@@ -1,7 +1,7 @@
 -- Every corner of a footprint, and every point of its edges, is on it. Assumes nothing.
 use Prim.Native.Nat.{ℕ, _<_}
 use Rattle.rules.specs.Ring.{Pt, Ring, from, to, On}
-use Rattle.rules.specs.Place.{OnRing, on, Place}
+use Rattle.rules.specs.Place.{on, Place}
 use Rattle.rules.proofs.Share.{on-start}
 
 pub edge-on : (r : Ring) (p : Pt) (i : ℕ) → i < r .size → On p (from r i) (to r i) → Place r p on

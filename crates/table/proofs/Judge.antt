@@ -38,7 +38,7 @@ use Rattle.piece.specs.Place.{Lies}
 use Rattle.piece.specs.Tells.{Tells}
 use Rattle.piece.specs.declared.motion.Verdict.{Verdict}
 use Rattle.piece.specs.declared.motion.Verdict.the-variants as verdict
-use Rattle.piece.proofs.Decide.{yes, no, truth, none-found, first-found, Below, none-yet, one-more}
+use Rattle.piece.proofs.Decide.{yes, no, truth, none-found, first-found, Below, none-yet, one-more, stop, seeks-end}
 use Rattle.piece.proofs.Shape.{decides, shares-decides, equal-decides, bends-decides}
 use Rattle.piece.specs.Shape.{meets}
 use Rattle.piece.proofs.Finds.{found-stray, found-same, found-fold, found-meet, found-clockwise, found-good, footprint-finds, piece-finds, place-finds}
@@ -53,9 +53,9 @@ seek f n = seekFrom f 0 n
 
 seeks-from : (Bad : ℕ → Type 0) (f : ℕ → Bool) (n : ℕ) → ((j : ℕ) → j < n → Decides (Bad j) (f j)) → (i k : ℕ) → i + k ≡ n → Below Bad i → Seeks Bad n (seekFrom f i k)
 unfolding seekFrom
-seeks-from Bad f n d i zero e b = record { before = λ j l h. b j l; found = λ l. absurd (omega arith) }
+seeks-from Bad f n d i zero e b = seeks-end Bad n i (omega arith) b
 seeks-from Bad f n d i (suc k) e b =
-    ⊎-elim (λ t. rw t (record { before = λ j l h. b j l; found = λ l. yes _ _ (d i (omega arith)) t })) (λ t. rw t (seeks-from Bad f n d (i + 1) k (omega arith) (one-more Bad i b (no _ _ (d i (omega arith)) t))))
+    ⊎-elim (λ t. rw t (stop Bad n i b (yes _ _ (d i (omega arith)) t))) (λ t. rw t (seeks-from Bad f n d (i + 1) k (omega arith) (one-more Bad i b (no _ _ (d i (omega arith)) t))))
     (decided (f i))
 
 pub seeks : (Bad : ℕ → Type 0) (f : ℕ → Bool) (n : ℕ) → ((j : ℕ) → j < n → Decides (Bad j) (f j)) → Seeks Bad n (seek f n)

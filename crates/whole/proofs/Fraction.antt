@@ -1,13 +1,11 @@
 -- The order of fractions: total, transitive, the same however a fraction is written; and 256 t rounded down. Assumes nothing.
-use mathlib.Core.Path.{_≡_, sym}
 use mathlib.Core.Logic.{_⊎_, ⊎-elim}
 use native.Mathlib.Omega.{arith}
 use lib.IntN.{ℤ, pos, _+ℤ_, _*ℤ_, *ℤ-comm}
 use lib.Signed.{_≤ℤ_, _<ℤ_, quotZ}
 use Rattle.whole.specs.Fraction.{Frac, _≼_, _≺_, mark, Floor}
 use Rattle.whole.proofs.Difference.{all2, ring}
-use Rattle.whole.proofs.Order.{mul-swap-r, le-or-lt, le-trans, lt-le, clash, eq-le, mul-mono, cancel, nn-mul, pos-mul}
-use Rattle.whole.proofs.Polynomial.{vars3, poly, by-ring}
+use Rattle.whole.proofs.Order.{mul-swap-r, le-or-lt, le-trans, lt-le, clash, mul-mono, cancel, nn-mul, pos-mul}
 use Rattle.whole.proofs.Range.{quot}
 
 -- ---- order
@@ -35,12 +33,6 @@ lt-then-le s t u h k = less s u (λ l. apart s t h (trans t u s k l))
 -- ---- written with c times the numbers
 abbrev pub scaled : (c : ℤ) → pos 0 <ℤ c → Frac → Frac
 scaled c l t = record { num = c *ℤ t .num; den = c *ℤ t .den; some = pos-mul c (t .den) l (t .some) }
-
-cross : (c n d : ℤ) → (c *ℤ n) *ℤ d ≡ n *ℤ (c *ℤ d)
-cross = vars3 _ λ ρ. simp poly (by-ring _ _ _ tt)
-
-pub le-scaled : (c : ℤ) (l : pos 0 <ℤ c) (t : Frac) → t ≼ scaled c l t
-le-scaled c l t = eq-le _ _ (sym (cross c (t .num) (t .den)))
 
 -- ---- rounding down
 pub marks : (j k : ℤ) → mark j ≺ mark (k +ℤ pos 1) → j ≤ℤ k

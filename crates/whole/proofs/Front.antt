@@ -1,7 +1,7 @@
 -- A new front, laid one element after the other. Assumes nothing.
 use mathlib.Core.Path.{_≡_, refl, sym, _∙_}
 use mathlib.Core.Logic.{⊎-elim}
-use mathlib.Core.List.{List, _++_}
+use mathlib.Core.List.{List}
 use Prim.Native.Nat.{ℕ, _+_, _-_, _≤_, _<_}
 use native.Mathlib.Omega.{arith}
 use lib.ListN.{length, getD, set, drop, length-set, length-append, length-drop, List·getD-append}
@@ -10,6 +10,10 @@ use borrow.Author.Count.{below-none, below-more}
 use Rattle.whole.specs.Front.{Front, fronted}
 use Rattle.whole.proofs.Order.{ℕ-or}
 
+-- one more element is stored: those up to it are right
+pub stored : {A : Type 0} (z : A) (l m : List A) (i : ℕ) (a : A) → i < length l → ((k : ℕ) → k < i → getD l k z ≡ getD m k z) → a ≡ getD m i z → (k : ℕ) → k < i + 1 → getD (set l i a) k z ≡ getD m k z
+stored z l m i a h before e = below-more (λ k. getD (set l i a) k z ≡ getD m k z) i (λ k g. getD-set-other l i k a z (λ q. omega arith) ∙ before k g) (getD-set-same l i a z h ∙ e)
+
 module _ {A : Type 0} (z : A) (front before : List A) where
   pub front-none : Front z front 0 before before
   front-none = record { size = refl; first = below-none _; rest = λ i h. refl }
@@ -17,7 +21,7 @@ module _ {A : Type 0} (z : A) (front before : List A) where
   pub front-more : (l : List A) (j : ℕ) (a : A) → a ≡ getD front j z → j < length l → Front z front j before l → Front z front (j + 1) before (set l j a)
   front-more l j a e h f = record {
     size = length-set l j a ∙ f .size;
-    first = below-more (λ i. getD (set l j a) i z ≡ getD front i z) j (λ i k. getD-set-other l j i a z (λ q. omega arith) ∙ f .first i k) (getD-set-same l j a z h ∙ e);
+    first = stored z l front j a h (f .first) e;
     rest = λ i k. getD-set-other l j i a z (λ q. omega arith) ∙ f .rest i (omega arith);
   }
 

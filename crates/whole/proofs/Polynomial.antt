@@ -1,15 +1,14 @@
 -- An equation of polynomials over ℤ, of any degree, in one line: `f = vars3 _ λ ρ. simp poly (by-ring _ _ _ tt)`.
 -- `vars3` puts `val ρ (var 0)`, .. for the variables, `simp poly` gathers each side into one `val ρ e`, and `by-ring` asks that the difference of the two has the empty normal form, which computes.
 -- Assumes nothing.
-use mathlib.Core.Path.{_≡_, refl, sym, ap, subst, _∙_}
+use mathlib.Core.Path.{_≡_, refl, sym, ap, _∙_}
 use mathlib.Core.Bool.{Bool, true, false}
 use mathlib.Core.List.{List, [], _∷_}
 use Prim.Native.Nat.{ℕ, zero, suc}
 use native.Mathlib.Omega.{arith}
 use lib.Dec.{T, leb, ltb, eqb, eqb→eq}
-use lib.IntN.{ℤ, pos, negsuc, negℤ, _+ℤ_, _-ℤ_, _*ℤ_, +ℤ-idl, +ℤ-idr, zero-*ℤ}
-use lib.Signed.{_≤ℤ_, _<ℤ_}
-use Rattle.whole.proofs.Difference.{_⊖_, all, all2, all3, all4, ring}
+use lib.IntN.{ℤ, pos, negsuc, negℤ, _+ℤ_, _*ℤ_, +ℤ-idl, +ℤ-idr, zero-*ℤ}
+use Rattle.whole.proofs.Difference.{all, all2, all3, all4, ring}
 use Rattle.whole.proofs.Order.{distrib, distrib-r, mul-assoc, mul-swap, mul-mul, mul-neg1, add-swap}
 
 pub data Exp : Type 0 where

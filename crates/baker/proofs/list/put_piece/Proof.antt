@@ -1,38 +1,32 @@
 -- `baker::list::put_piece` meets its contract. Assumes nothing.
 use mathlib.Core.Path.{_≡_, sym, ap, _∙_}
-use mathlib.Core.List.{List, [], _∷_, _++_}
+use mathlib.Core.List.{List, _++_}
 use Prim.Native.Nat.{ℕ, _*_, _-_, _≤_}
 use native.Mathlib.Omega.{arith}
 use denote.Ref.{now}
 use lib.IntN.{ℤ}
 use lib.ListN.{length, take, drop, length-take, length-drop}
 use lib.Seq.{length-take-le}
-use mir.Syntax.{w32}
 use Rattle.whole.specs.Front.{fronted}
-use Rattle.whole.proofs.Range.{field}
-use Rattle.piece.specs.declared.Band.{Band}
 use Rattle.piece.specs.Numbers.{pieceOf}
 use Rattle.block.specs.Layout.{pieceNumbers}
 use Rattle.block.specs.declared.PieceRead.{PieceRead}
+use Rattle.block.proofs.PieceLaws.{machine, bandNumbers, read-band}
 use Rattle.baker.specs.Listed.{out, pieceFound}
-use Rattle.baker.proofs.Back.{back}
 use Rattle.baker.proofs.Codes.{by}
 use Rattle.baker.proofs.Listed.{long, short, put-fits, laid-two}
 use borrow.Author.Needs.{needs}
 use Rattle.baker.proofs.list.put_piece.Statement.{statement}
 use Rattle.baker.proofs.list.put_piece.Tie as tie
 
-abbrev five : Band → List ℤ
-five b = b .bottom ∷ b .top ∷ b .vx ∷ b .vy ∷ b .vz ∷ []
-
--- read back
-abbrev machine : Band → Band
-machine k = record { bottom = back (k .bottom); top = back (k .top); vx = back (k .vx); vy = back (k .vy); vz = back (k .vz) }
-
-same : (s : tie.Start) → five (machine (s .args .read .band)) ≡ five (s .args .read .band)
+same : (s : tie.Start) → machine (s .args .read .band) ≡ bandNumbers (s .args .read .band)
 same s =
-    let k = s .args .read .band in
-    rw (field w32 (k .bottom) (omega arith), field w32 (k .top) (omega arith), field w32 (k .vx) (omega arith), field w32 (k .vy) (omega arith), field w32 (k .vz) (omega arith))
+    read-band (s .args .read .band)
+    (record { sfits = omega arith })
+    (record { sfits = omega arith })
+    (record { sfits = omega arith })
+    (record { sfits = omega arith })
+    (record { sfits = omega arith })
 
 abbrev rest : PieceRead → List ℤ
 rest r = take (2 * r .count) (r .corners)
@@ -99,14 +93,14 @@ returns-3 : tie.Need-returns-3
 returns-3 c =
     let q = c .before .before .before .before .before .before in let e = q .before .before .before .before .before in let s = e .before .before .before in let b = now (s .args .list) in let r = s .args .read in
     let l = q .put .last .1 .0 in let n = length l - 5 in
-    let first = put-fits (five (machine (r .band))) b l (q .put .result) (omega arith) (q .put .ensures) ∙ ap (λ (m : List ℤ). fronted m b) (same s) in
+    let first = put-fits (machine (r .band)) b l (q .put .result) (omega arith) (q .put .ensures) ∙ ap (λ (m : List ℤ). fronted m b) (same s) in
     let room : length (rest r) ≤ length (take n (drop 5 l)) = let h = s .pre .count in omega (arith, length-take-le (2 * r .count) (r .corners) (s .pre .corners), length-take n (drop 5 l), length-drop 5 l, q .put .kept) in
     let second = put-fits (rest r) (take n (drop 5 l)) _ (c .before .put2 .result) room (c .before .put2 .ensures) in
     by (pieceFound b r) (e .before .enum-told .given .1)
     (ap (out (r .count))
     (ap (λ (m : List ℤ). take 5 l ++ (m ++ drop n (drop 5 l))) second
     ∙ ap (λ (m : List ℤ). take 5 m ++ (fronted (rest r) (take (length m - 5) (drop 5 m)) ++ drop (length m - 5) (drop 5 m))) first
-    ∙ laid-two b (five (r .band)) (rest r))
+    ∙ laid-two b (bandNumbers (r .band)) (rest r))
     ∙ sym (long 133 b (r .count) (numbers r) (e .if1 .left)))
 
 pub put-piece-spec : {M : Type 1} → statement M

@@ -1,10 +1,10 @@
 -- `block::fill::finish` meets its contract: what stood before the end, and zeros after it. Assumes nothing.
-use mathlib.Core.Path.{_≡_, sym, _∙_}
+use mathlib.Core.Path.{sym, _∙_}
 use mathlib.Core.Logic.{⊎-elim}
-use Prim.Native.Nat.{ℕ, _≤_, _<_}
+use Prim.Native.Nat.{_≤_, _<_}
 use native.Mathlib.Omega.{arith}
 use borrow.Author.Needs.{needs}
-use lib.ListN.{length, take, length-take, List·getD-eq-default}
+use lib.ListN.{take, length-take, List·getD-eq-default}
 use lib.Seq.{getD-take}
 use denote.Ref.{now}
 use Rattle.whole.proofs.Order.{ℕ-or}

@@ -1,10 +1,10 @@
 -- `block::fill::first_wide` meets its contract: two bytes hold the numbers passed. Assumes nothing.
-use Prim.Native.Nat.{ℕ, _≤_, _-_}
+use Prim.Native.Nat.{_≤_, _-_}
 use native.Mathlib.Omega.{arith}
 use borrow.Author.Needs.{needs}
 use mir.Syntax.{w32}
 use lib.ListN.{length}
-use Rattle.piece.proofs.Decide.{Below, none-yet, one-more, stop, taken, rejected}
+use Rattle.piece.proofs.Decide.{Below, none-yet, one-more, stop, seeks-end, taken, rejected}
 use Rattle.block.specs.Reading.{Word, Wide}
 use Rattle.block.proofs.fill.first_wide.Statement.{statement}
 use Rattle.block.proofs.fill.first_wide.Tie as tie
@@ -40,7 +40,7 @@ loop-again : tie.Need-loop-again Inv-loop μ-loop
 loop-again c = (search needs, one-more _ _ (c .before .before .before .before .loop .inv .1) (λ f. f (taken Word w32 _ (c .before .fits2 .result) (c .before .before .fits-arg .given) (c .before .fits2 .ensures) (c .if1 .left))))
 
 returns-2 : tie.Need-returns-2 Inv-loop μ-loop
-returns-2 c = record { before = λ j l i. c .before .loop .inv .1 j l; found = λ l. absurd (omega arith) }
+returns-2 c = let v = c .before .loop in seeks-end _ _ (v .j) (omega arith) (v .inv .1)
 
 pub first-wide-spec : {M : Type 1} → statement M
 first-wide-spec =

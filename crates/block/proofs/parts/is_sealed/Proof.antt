@@ -1,5 +1,5 @@
 -- `block::parts::is_sealed` decides: the sums of the parts are the block's. Assumes nothing.
-use mathlib.Core.Path.{_≡_, sym, _∙_}
+use mathlib.Core.Path.{sym, _∙_}
 use Prim.Native.Nat.{_+_, _%_}
 use native.Mathlib.Omega.{arith}
 use lib.Dec.{eqb}

@@ -7,7 +7,6 @@ use borrow.Author.Needs.{needs}
 use lib.IntN.{pos}
 use lib.ListN.{length, getD, set, take, length-set}
 use denote.Ref.{now}
-use Rattle.piece.specs.Numbers.{pieceOf}
 use Rattle.block.specs.Layout.{words}
 use Rattle.block.specs.Reading.{Word}
 use Rattle.block.proofs.Mid.{mid, mid-length, mid-front, part-length, two-length, two-then}

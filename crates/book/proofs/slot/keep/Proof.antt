@@ -1,12 +1,10 @@
 -- `book::slot::keep` meets its contract: the part that was lent is the slot. Assumes nothing.
-use mathlib.Core.Path.{ap, _∙_}
 use mathlib.Core.List.{_++_}
 use borrow.Author.Needs.{needs}
-use lib.ListN.{length}
 use denote.Ref.{now}
 use Rattle.block.specs.Layout.{blockOf}
 use Rattle.book.specs.Entry.{four}
-use Rattle.book.proofs.Slots.{slot-length, part-slot, part-put}
+use Rattle.book.proofs.Slots.{part-put}
 use Rattle.book.proofs.slot.keep.Statement.{statement}
 use Rattle.book.proofs.slot.keep.Tie as tie
 

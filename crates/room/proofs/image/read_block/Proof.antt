@@ -1,5 +1,5 @@
 -- `room::image::read_block` meets its contract: piece i stands in block i + 1. Assumes nothing.
-use mathlib.Core.Path.{_≡_, subst}
+use mathlib.Core.Path.{subst}
 use mathlib.Core.List.{List}
 use Prim.Native.Nat.{ℕ}
 use native.Mathlib.Omega.{arith}
