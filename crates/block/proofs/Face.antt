@@ -11,7 +11,7 @@ use Rattle.refusal.specs.Said.{Finds}
 use Rattle.refusal.proofs.Finds.{finds-after}
 use Rattle.refusal.specs.declared.Checked.{Checked}
 use Rattle.block.specs.Layout.{byte, blockOf}
-use Rattle.block.specs.Reading.{Named, Misspelt, unnamedCheck, headerBytes, runBytes, pieceBytes}
+use Rattle.block.specs.Reading.{NotZero, Misspelt, unnamedCheck, headerBytes, runBytes, pieceBytes}
 use Rattle.block.specs.Scan.{Clean}
 use Rattle.block.proofs.Bytes.{block-at}
 
@@ -24,7 +24,7 @@ stable a b f =
     (ℕ-or a b)
 
 -- no byte that must be zero is not
-pub clean-from : (l : List ℕ) (from : ℕ) → ((j : ℕ) → j < 510 - from → Named l from j → ⊥) → Clean l from 510
+pub clean-from : (l : List ℕ) (from : ℕ) → ((j : ℕ) → j < 510 - from → NotZero l from j → ⊥) → Clean l from 510
 clean-from l from f i h k = let e : from + (i - from) ≡ i = omega arith in ap (byte l) (sym e) ∙ stable (byte l (from + (i - from))) 0 (f (i - from) (omega arith))
 
 pub header-last : (l : List ℕ) (r : Checked) → ((j : ℕ) → j < 4 → Misspelt l j → ⊥) → byte l 4 ≡ 1 → Pieces (byte l 5) → Finds (unnamedCheck l 6 ∷ []) r → Finds (headerBytes l) r

@@ -45,11 +45,11 @@ module _ (first last : List ℕ) (at : ℕ) (k : length first ≤ at) (h : at + 
   module _ (z m y : List ℕ) (n : ℕ) (zl : length z ≡ 512) (zs : Clean z 0 510) (b : Front 0 first (length first) z m) (l : (j : ℕ) → j < length last → byte y j ≡ byte last j) where
     first-is : (i : ℕ) → i < 510 → byte m i ≡ byte first i
     first-is i g =
-        ⊎-elim (λ (q : length first ≤ i). b .rest i q ∙ zs i (omega arith) g ∙ sym (List·getD-eq-default first 0 {n = i} q)) (λ (q : i < length first). b .first i q) (ℕ-or (length first) i)
+        ⊎-elim (λ (q : length first ≤ i). b .stays .rest i q ∙ zs i (omega arith) g ∙ sym (List·getD-eq-default first 0 {n = i} q)) (λ (q : i < length first). b .first i q) (ℕ-or (length first) i)
 
     pub parts-alike : length y ≡ n → n ≡ length last → Alike (mid at n m y) both
     parts-alike e f i g =
-        let s : at + n ≤ length m = omega (arith, b .size) in
+        let s : at + n ≤ length m = omega (arith, b .stays .size) in
         ⊎-elim
         (λ (q : at ≤ i). let d : at + (i - at) ≡ i = omega arith in
         rw (sym d)

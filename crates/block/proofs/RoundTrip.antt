@@ -39,11 +39,11 @@ accepted-header l n before after r f e w = write-header-one n before after l r G
 -- ---- run
 pub written-run : (run : Run) (before after : List ℕ) (r : RunRead) → Writes (runAsked before (runOf run)) (runBlock (runOf run)) before after Good → RunSays after r → r ≡ Found run
 unfolding runAsked
-written-run run before after r w f = read-run-one after r (Found run) f (w .0 .1, w .1)
+written-run run before after r w f = read-run-one after r (Found run) f (record { good = w .0 .1; same = w .1 })
 
 pub accepted-run : (l : List ℕ) (run : Run) (before after : List ℕ) (r : Checked) → RunSays l (Found run) → length before ≡ 512 → Writes (runAsked before (runOf run)) (runBlock (runOf run)) before after r → (r ≡ Good) × (after ≡ l)
 unfolding runAsked
-accepted-run l run before after r f e w = write-run-one run before after l r Good w ((e, f .0), f .1)
+accepted-run l run before after r f e w = write-run-one run before after l r Good w ((e, f .good), f .same)
 
 -- ---- piece
 -- the answer that holds a good piece

@@ -1,5 +1,5 @@
 -- A run and its block: what a block holds, and that the block of a good run passes. Assumes nothing.
-use mathlib.Core.Path.{_≡_, refl, sym, _∙_}
+use mathlib.Core.Path.{_≡_, refl, sym, subst, _∙_}
 use mathlib.Core.List.{List, [], _∷_, _++_}
 use Prim.Native.Nat.{ℕ, zero, suc, _+_, _*_, _≤_, _<_}
 use native.Mathlib.Omega.{arith}
@@ -18,7 +18,7 @@ use Rattle.rules.proofs.Checks.{passes-append, passes-left, passes-right}
 use Rattle.piece.specs.declared.Run as plain
 use Rattle.piece.specs.Numbers.{runOf}
 use Rattle.block.specs.Layout.{byte, word, words, runNumbers, runBody, runBlock}
-use Rattle.block.specs.Reading.{Half, RunIn, inside, blockChecks, runBytes, runBlockChecks, Word}
+use Rattle.block.specs.Reading.{Half, RunGood, RunIn, inside, blockChecks, runBytes, runBlockChecks, Word}
 use Rattle.block.specs.Scan.{RunAt}
 use Rattle.block.proofs.Bytes.{block-length, block-at, block-sealed}
 use Rattle.block.proofs.Face.{stable, unnamed-front}
@@ -105,6 +105,13 @@ run-passes r p =
     passes-append (blockChecks (runBlock r) ++ runBytes (runBlock r)) (inside (RunIn (runBlock r)) runChecks ∷ [])
     (passes-append (blockChecks (runBlock r)) (runBytes (runBlock r)) (block-length f k, (block-sealed f k, tt))
     (block-at f k 0 (omega arith), (block-at f k 1 (omega arith), (unnamed-front f 16 k (omega arith), tt)))) ((r, good-in r p, p), tt)
+
+-- a block that is the block of a good run
+pub block-in : (l : List ℕ) (r : Run) → RunGood l r → RunIn l r
+block-in l r f = subst (λ l. RunIn l r) (sym (f .same)) (good-in r (f .good))
+
+pub block-passes : (l : List ℕ) (r : Run) → RunGood l r → Passes (runBlockChecks l)
+block-passes l r f = subst (λ l. Passes (runBlockChecks l)) (sym (f .same)) (run-passes r (f .good))
 
 -- ---- a block holds one run
 run-numbers : (l : List ℕ) (r : Run) → l ≡ runBlock r → Numbers l (runNumbers r)

@@ -4,11 +4,13 @@ use mathlib.Core.Bool.{Bool, true, false}
 use mathlib.Core.List.{List, _++_}
 use Prim.Native.Nat.{ℕ}
 use lib.IntN.{ℤ}
+use native.Mathlib.Omega.{arith}
 use Rattle.rules.specs.Reach as rules
 use Rattle.rules.specs.Reach.{Piece}
 use Rattle.rules.specs.Refusal.{Passes, Fault}
-use Rattle.rules.specs.Good.{runChecks, pieceChecks}
-use Rattle.rules.specs.Verdict.{Answer, clear, blocked, Verdict, verdictChecks}
+use Rattle.rules.specs.Good.{runChecks}
+use Rattle.rules.specs.Verdict.{Answer, clear, blocked, Verdict}
+use Rattle.rules.proofs.Verdict.{one-verdict}
 use Rattle.rules.proofs.Checks.{never-both, passes-append}
 use Rattle.refusal.specs.Said.{said, Writes}
 use Rattle.refusal.proofs.Unique.{refused-one, writes-one}
@@ -20,14 +22,13 @@ use Rattle.piece.specs.declared.Run.{Run}
 use Rattle.piece.specs.declared.motion.Verdict as told
 use Rattle.piece.specs.declared.motion.Verdict.the-variants.{Clear, Mark, Refused as Unjudged}
 use Rattle.piece.specs.Numbers.{runOf}
-use Rattle.piece.proofs.Tells.{one-told}
 use Rattle.block.specs.declared.HeaderRead.{HeaderRead}
 use Rattle.block.specs.declared.HeaderRead.the-variants.{Count, NoHeader}
 use Rattle.block.specs.declared.RunRead.{RunRead}
 use Rattle.block.specs.declared.RunRead.the-variants.{Found, NoRun}
 use Rattle.block.specs.declared.PieceRead.{PieceRead}
 use Rattle.block.specs.Layout.{words, headerBlock, runBlock, pieceBlock, blockOf, filled}
-use Rattle.block.specs.Reading.{headerChecks, runBlockChecks, pieceBlockChecks, headerAsked, partsAsked, PartsIn, wordsAsked, runAsked, pieceAsked, HeaderSays, RunIn, RunSays, Holds, PieceFound, PieceSays}
+use Rattle.block.specs.Reading.{headerChecks, runBlockChecks, pieceBlockChecks, headerAsked, partsAsked, PartsIn, wordsAsked, runAsked, pieceAsked, HeaderSays, RunSays, Holds, PieceFound, PieceSays}
 use Rattle.block.specs.Verdicts.{VerdictOn, verdictInChecks, VerdictInSays}
 use Rattle.block.proofs.Headers.{header-passes, header-one}
 use Rattle.block.proofs.RunLaws as runs
@@ -79,16 +80,10 @@ run-of-one r s e = λ i. record {
   ticks = e i .ticks;
 }
 
-found-in : (l : List ℕ) (r : Run) → RunSays l (Found r) → RunIn l (runOf r)
-found-in l r f = subst (λ l. RunIn l (runOf r)) (sym (f .1)) (runs.good-in (runOf r) (f .0))
-
-found-passes : (l : List ℕ) (r : Run) → RunSays l (Found r) → Passes (runBlockChecks l)
-found-passes l r f = subst (λ l. Passes (runBlockChecks l)) (sym (f .1)) (runs.run-passes (runOf r) (f .0))
-
 pub read-run-one : (l : List ℕ) (r s : RunRead) → RunSays l r → RunSays l s → r ≡ s
-read-run-one l (Found r) (Found s) f g = ap Found (run-of-one r s (runs.run-one l (runOf r) (runOf s) (found-in l r f) (found-in l s g)))
-read-run-one l (Found r) (NoRun y) f g = absurd (never-both (runBlockChecks l) (sharp-run-block l) (said y) (found-passes l r f) g)
-read-run-one l (NoRun x) (Found s) f g = absurd (never-both (runBlockChecks l) (sharp-run-block l) (said x) (found-passes l s g) f)
+read-run-one l (Found r) (Found s) f g = ap Found (run-of-one r s (runs.run-one l (runOf r) (runOf s) (runs.block-in l (runOf r) f) (runs.block-in l (runOf s) g)))
+read-run-one l (Found r) (NoRun y) f g = absurd (never-both (runBlockChecks l) (sharp-run-block l) (said y) (runs.block-passes l (runOf r) f) g)
+read-run-one l (NoRun x) (Found s) f g = absurd (never-both (runBlockChecks l) (sharp-run-block l) (said x) (runs.block-passes l (runOf s) g) f)
 read-run-one l (NoRun x) (NoRun y) f g = ap NoRun (refused-one (runBlockChecks l) (sharp-run-block l) x y f g)
 
 -- ---- read_piece
@@ -116,12 +111,14 @@ read-piece-one l r s f g = found-one l r s (r .found) (s .found) refl refl f g
 
 -- ---- verdict_in
 module _ (r : rules.Run) (l : List ℕ) where
-  -- the answer of one, on the piece of the other
-  judged : (a b : Answer) → VerdictOn r l a → (g : VerdictOn r l b) → Passes (verdictChecks r (g .piece)) × Verdict r (g .piece) a
-  unfolding verdictChecks
-  judged a b f g =
+  -- one answer on the piece of a block
+  pub verdict-on-one : (a b : Answer) → VerdictOn r l a → VerdictOn r l b → a ≡ b
+  verdict-on-one a b f g =
       let e = pieces.piece-one l (f .piece) (g .piece) (pieces.block-in l (f .piece) (f .same) (f .good)) (pieces.block-in l (g .piece) (g .same) (g .good)) in
-      (passes-append (runChecks r) (pieceChecks (g .piece)) (g .run) (g .good), subst (λ k. Verdict r k a) e (f .verdict))
+      one-verdict r (g .piece) a b (subst (λ k. Verdict r k a) e (f .verdict)) (g .verdict)
+
+  never : (n : ℕ) → VerdictOn r l clear → VerdictOn r l (blocked n) → ⊥
+  never n f g = let e : clear ≡ blocked n = verdict-on-one clear (blocked n) f g in let z : _≡_ {A = ℕ} 0 1 = cc in omega arith
 
   -- a verdict and a refusal
   clash : (a : Answer) (x : Refusal) → VerdictOn r l a → Fault (verdictInChecks r l) (said x) → ⊥
@@ -132,9 +129,9 @@ module _ (r : rules.Run) (l : List ℕ) where
 
   pub verdict-in-one : (v w : told.Verdict) → VerdictInSays r l v → VerdictInSays r l w → v ≡ w
   verdict-in-one Clear Clear f g = refl
-  verdict-in-one Clear (Mark n) f g = one-told r (g .piece) Clear (Mark n) (judged clear (blocked n) f g) (judged (blocked n) (blocked n) g g)
-  verdict-in-one (Mark m) Clear f g = one-told r (g .piece) (Mark m) Clear (judged (blocked m) clear f g) (judged clear clear g g)
-  verdict-in-one (Mark m) (Mark n) f g = one-told r (g .piece) (Mark m) (Mark n) (judged (blocked m) (blocked n) f g) (judged (blocked n) (blocked n) g g)
+  verdict-in-one Clear (Mark n) f g = absurd (never n f g)
+  verdict-in-one (Mark m) Clear f g = absurd (never m g f)
+  verdict-in-one (Mark m) (Mark n) f g = let e : blocked m ≡ blocked n = verdict-on-one (blocked m) (blocked n) f g in cc
   verdict-in-one Clear (Unjudged y) f g = absurd (clash clear y f g)
   verdict-in-one (Mark m) (Unjudged y) f g = absurd (clash (blocked m) y f g)
   verdict-in-one (Unjudged x) Clear f g = absurd (clash clear x g f)

@@ -6,7 +6,7 @@ use Rattle.rules.specs.Refusal.{Passes, Fault}
 use Rattle.rules.specs.Good.{runChecks, pieceChecks}
 use Rattle.rules.specs.Verdict as rules
 use Rattle.rules.specs.Verdict.{Answer, clear, blocked, verdictChecks}
-use Rattle.rules.proofs.Checks.{passes-right, fault-left, fault-right}
+use Rattle.rules.proofs.Checks.{passes-right, fault-left, fault-right, fault-past}
 use Rattle.rules.proofs.Good.{sharp-run}
 use Rattle.refusal.specs.Said.{said}
 use Rattle.refusal.specs.declared.Refusal.{Refusal}
@@ -15,7 +15,6 @@ use Rattle.piece.specs.declared.motion.Verdict.the-variants.{Clear, Mark, Refus
 use Rattle.piece.specs.Tells.{Tells}
 use Rattle.block.specs.Reading.{blockChecks, pieceBytes, pieceBlockChecks, PieceIn}
 use Rattle.block.specs.Verdicts.{VerdictOn, verdictInChecks, VerdictInSays}
-use Rattle.block.proofs.Found.{fault-past}
 use Rattle.block.proofs.PieceLaws.{bytes-fault, inside-fault}
 
 module _ (r : Run) (l : List ℕ) where

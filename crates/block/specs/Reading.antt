@@ -42,12 +42,13 @@ sealCheck l = demand (Sealed l) (refuse 2 0 0)
 abbrev pub byteCheck : List ℕ → ℕ → ℕ → Check
 byteCheck l i n = demand (byte l i ≡ n) (refuse 3 i 0)
 
--- the bytes from here to 509 have no name, and are zero
-abbrev pub Named : List ℕ → ℕ → ℕ → Type 0
-Named l from j = byte l (from + j) ≡ 0 → ⊥
+-- byte j from here on is not zero
+abbrev pub NotZero : List ℕ → ℕ → ℕ → Type 0
+NotZero l from j = byte l (from + j) ≡ 0 → ⊥
 
+-- the bytes from here to 509 have no name, and are zero
 abbrev pub unnamedCheck : List ℕ → ℕ → Check
-unnamedCheck l from = each (Named l from) (510 - from) (λ i. refuse 3 (from + i) 0)
+unnamedCheck l from = each (NotZero l from) (510 - from) (λ i. refuse 3 (from + i) 0)
 
 -- any block: length, then check
 unfoldable pub blockChecks : List ℕ → List Check
@@ -124,8 +125,12 @@ abbrev pub HeaderSays : List ℕ → HeaderRead → Type 0
 HeaderSays l (Count n) = Pieces n × (l ≡ headerBlock n)
 HeaderSays l (NoHeader x) = Fault (headerChecks l) (said x)
 
+pub record RunGood (l : List ℕ) (r : Run) : Type 0 where
+  pub good : Passes (runChecks r)
+  pub same : l ≡ runBlock r
+
 abbrev pub RunSays : List ℕ → RunRead → Type 0
-RunSays l (Found r) = Passes (runChecks (runOf r)) × (l ≡ runBlock (runOf r))
+RunSays l (Found r) = RunGood l (runOf r)
 RunSays l (NoRun x) = Fault (runBlockChecks l) (said x)
 
 -- the numbers of k stand in r, with zeros after its corners
@@ -162,13 +167,16 @@ unfoldable pub headerAsked : List ℕ → ℕ → List Check
 headerAsked l n = lengthCheck l ∷ demand (Pieces n) (refuse 3 5 0) ∷ []
 
 -- first bytes and others from byte `at` on, within 510
+pub record PartsFit (first last : List ℕ) (at : ℕ) : Type 0 where
+  pub begin : length first ≤ at
+  pub end : at + length last ≤ 510
+
 unfoldable pub partsAsked : List ℕ → List ℕ → List ℕ → ℕ → List Check
-partsAsked l first last at = lengthCheck l ∷ demand ((length first ≤ at) × (at + length last ≤ 510)) (refuse 1 0 0) ∷ []
+partsAsked l first last at = lengthCheck l ∷ demand (PartsFit first last at) (refuse 1 0 0) ∷ []
 
 -- and the block that is made of them
 pub record PartsIn (first last : List ℕ) (at : ℕ) (l : List ℕ) : Type 0 where
-  pub begin : length first ≤ at
-  pub end : at + length last ≤ 510
+  pub fit : PartsFit first last at
   pub same : l ≡ blockOf (filled at first ++ last)
 
 -- numbers to be put into as many pairs of bytes; number i stands at byte 2·i

@@ -12,7 +12,7 @@ ghost use Rattle.refusal.specs.Said.{Finds};
 ghost use Rattle.piece.specs.Decide.{Decides, Seeks};
 ghost use Rattle.block.specs.Layout.{byte};
 ghost use Rattle.block.specs.Word.{Spelt};
-ghost use Rattle.block.specs.Reading.{Named, unnamedCheck};
+ghost use Rattle.block.specs.Reading.{NotZero, unnamedCheck};
 ghost use Rattle.block.specs.Scan.{Clean, RunAt, BandAt, CornersAt};
 
 // Whether the bytes from here up to there are zero. No byte ends the loop early, so that it can go by many bytes at a time.
@@ -50,7 +50,7 @@ pub(crate) fn alike(a: &[u8], b: &[u8]) -> bool
 // How many bytes are zero from here on.
 fn zeros_at(block: &[u8], from: usize) -> usize
     requires { ⌜ (from ≤ 510) × (length (now block) ≡ 512) ⌝ }
-    ensures { λ r. ⌜ Seeks (Named (now (block .entry)) from) (510 - from) r ⌝ }
+    ensures { λ r. ⌜ Seeks (NotZero (now (block .entry)) from) (510 - from) r ⌝ }
     ensures { λ r. ⌜ r ≤ 510 - from ⌝ }
 {
     let mut j = 0;

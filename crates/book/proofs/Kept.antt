@@ -10,10 +10,10 @@ use lib.ListN.{length, getD, replicate, length-append, getD-replicate, List·get
 use Rattle.whole.proofs.Order.{ℕ-or}
 use Rattle.rules.specs.Reach.{Run, Piece}
 use Rattle.rules.specs.Refusal.{Passes}
-use Rattle.rules.specs.Good.{runChecks, pieceChecks}
+use Rattle.rules.specs.Good.{runChecks, pieceChecks, RunKnown, PieceKnown}
 use Rattle.rules.specs.Verdict.{Verdict, verdictChecks, answer}
 use Rattle.rules.proofs.Checks.{passes-left, passes-right}
-use Rattle.rules.proofs.Reach.{RunKnown, run-known, PieceKnown, piece-known}
+use Rattle.rules.proofs.Reach.{run-known, piece-known}
 use Rattle.block.specs.Layout.{sum, byte, plainSum, weighedSum, blockOf, filled, blockAt}
 use Rattle.block.proofs.Bytes.{filled-length}
 use Rattle.book.specs.declared.Asked.{Asked}

@@ -11,7 +11,7 @@ use lib.Seq.{take-at, drop-at}
 use Rattle.whole.proofs.Order.{le-trans}
 use Rattle.rules.specs.Reach.{Between, Reach, Speed, Run, Piece, run, piece}
 use Rattle.rules.specs.Ring.{ring as corners}
-use Rattle.rules.proofs.Reach.{RunKnown, PieceKnown}
+use Rattle.rules.specs.Good.{RunKnown, PieceKnown}
 use Rattle.block.specs.Layout.{word, words, filled, blockOf, runNumbers, runBody, pieceNumbers, pieceBody}
 use Rattle.block.specs.Reading.{Half}
 use Rattle.block.proofs.Words.{word-one, words-length}

@@ -10,7 +10,8 @@ use Rattle.whole.proofs.Order.{le-lt-trans, lt-le, not-lt, clash, neg-not, pos-
 use Rattle.whole.proofs.Flag.{by-flag, false-true, decided, or-yes, or-left, or-right, and-yes, and-both, le-true, le-false, true-le}
 use Rattle.rules.specs.Ring.{Pt, Ring, from, to, On}
 use Rattle.rules.specs.Place.{OnRing, on, inside, outside, Parity, Place}
-use Rattle.rules.proofs.Segment.{o, no-line, Apart, right, left, right′, left′, below, above, before, behind}
+use Rattle.rules.specs.Side.{o}
+use Rattle.rules.proofs.Segment.{no-line, Apart, right, left, right′, left′, below, above, before, behind}
 use Rattle.rules.proofs.On.{on-or-off, off-not-on}
 use Rattle.rules.proofs.Crossing.{flag, parity}
 use Rattle.rules.proofs.Place.{bit, parity-place}

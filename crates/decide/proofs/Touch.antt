@@ -12,7 +12,8 @@ use Rattle.whole.proofs.Flag.{same-flag, or-yes, and-yes, lt-true}
 use Rattle.whole.proofs.Polynomial.{vars3, vars4, vars5, vars6, vars9, vars10, poly, num-val, by-ring}
 use Rattle.rules.specs.Ring.{Pt, times, On}
 use Rattle.rules.specs.Contact.{along}
-use Rattle.rules.proofs.Segment.{o, side, mix, mix⁺, Signs, minus, plus}
+use Rattle.rules.specs.Side.{o, side}
+use Rattle.rules.proofs.Segment.{mix, mix⁺, Signs, minus, plus}
 use Rattle.decide.specs.Span.{Span}
 use Rattle.decide.specs.Touch.{least, most, swing, across, sameSide, onLine, within, onEdge}
 use Rattle.decide.proofs.Span.{Proper, Holds, Clips, clips, turned, both}

@@ -7,7 +7,7 @@ use Rattle.rules.specs.Reach.{Run, Piece}
 use Rattle.rules.specs.Ring.{Pt, times, Ring, ring, from, to}
 use Rattle.rules.specs.Place.{Where, on, inside, outside}
 use Rattle.rules.specs.Verdict.{NONE}
-use Rattle.rules.proofs.Segment.{o}
+use Rattle.rules.specs.Side.{o}
 use Rattle.rules.proofs.Crossing.{flag, parity}
 use Rattle.decide.specs.Span.{Span, ticks, clip, some, first}
 

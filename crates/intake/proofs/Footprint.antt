@@ -114,5 +114,5 @@ module _ (cs : List Corner) (n : ℕ) (l before : List ℤ) (all : length l ≡ 
       x = λ i lt. subst (λ (z : ℤ). Answer (cornerAt cs i .x) (Grid z)) (sym (holds-at (2 * i) (omega arith))) (h .x i lt);
       y = λ i lt. subst (λ (z : ℤ). Answer (cornerAt cs i .y) (Grid z)) (sym (holds-at (2 * i + 1) (omega arith))) (h .y i lt);
     },
-    record { long = laid .size; past = λ j g. laid .rest j (omega (arith, long)) },
+    record { size = laid .stays .size; rest = λ j g. laid .stays .rest j (omega (arith, long)) },
   )

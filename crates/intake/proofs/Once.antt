@@ -8,10 +8,10 @@ use lib.Dec.{lit<}
 use lib.IntN.{ℤ, pos, natAbs, _+ℤ_}
 use lib.Signed.{_≤ℤ_}
 use lib.ListN.{length, getD}
-use lib.Seq.{ext-getD}
 use lib.Ieee.{Float, nan, inf, fin}
 use Rattle.whole.specs.Front.{fronted}
 use Rattle.whole.specs.Fraction.{Frac, _≺_, _≈_}
+use Rattle.whole.proofs.Front.{stays-one}
 use Rattle.whole.proofs.Difference.{all2, ring}
 use Rattle.whole.proofs.Order.{antisym, cancel-eq, lt-le, ℕ-or}
 use Rattle.whole.proofs.Fraction.{le-then-lt, lt-then-le}
@@ -121,9 +121,7 @@ module _ (cs : List Corner) (n : ℕ) (before l m : List ℤ) where
 
   one-later : (r : Checked) → Later cs n before r l → Later cs n before r m → l ≡ m
   one-later (Refused r) h i = h ∙ sym i
-  one-later Good h i =
-      ext-getD (pos 0) l m (h .1 .long ∙ sym (i .1 .long))
-      (λ j lt. ⊎-elim (λ (g : 2 * n ≤ j). h .1 .past j g ∙ sym (i .1 .past j g)) (λ (g : j < 2 * n). same-at (h .0) (i .0) j g) (ℕ-or (2 * n) j))
+  one-later Good h i = stays-one (pos 0) (2 * n) before l m (h .1) (i .1) (same-at (h .0) (i .0))
 
   -- two outcomes, answer and later list, that both meet the contract are equal
   pub one-intake : (r s : Checked) → Intake cs n before r l → Intake cs n before s m → (r ≡ s) × (l ≡ m)

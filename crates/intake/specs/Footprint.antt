@@ -5,6 +5,7 @@ use Prim.Native.Nat.{ℕ, zero, suc, _+_, _*_, _<_, _≤_}
 use lib.IntN.{ℤ, pos}
 use lib.ListN.{length, getD}
 use lib.Ieee.{Float, nan}
+use Rattle.whole.specs.Front.{Stays}
 use Rattle.rules.specs.Reach.{Corners}
 use Rattle.rules.specs.Refusal as rules
 use Rattle.rules.specs.Refusal.{Check, Fault, demand, refuse}
@@ -53,14 +54,9 @@ pub record Holds (cs : List Corner) (n : ℕ) (l : List ℤ) : Type 0 where
   pub x : (i : ℕ) → i < n → Answer (cornerAt cs i .x) (Grid (getD l (2 * i) (pos 0)))
   pub y : (i : ℕ) → i < n → Answer (cornerAt cs i .y) (Grid (getD l (2 * i + 1) (pos 0)))
 
--- elements past the first n stay, and so does their number
-pub record Stays (n : ℕ) (before later : List ℤ) : Type 0 where
-  pub long : length later ≡ length before
-  pub past : (j : ℕ) → n ≤ j → getD later j (pos 0) ≡ getD before j (pos 0)
-
 -- what the lent list holds afterwards: the corners, or what it held
 abbrev pub Later : List Corner → ℕ → List ℤ → Checked → List ℤ → Type 0
-Later cs n before Good later = Holds cs n later × Stays (2 * n) before later
+Later cs n before Good later = Holds cs n later × Stays (pos 0) (2 * n) before later
 Later cs n before (Refused r) later = later ≡ before
 
 -- an intake: what is answered, and what the lent list holds
@@ -68,7 +64,7 @@ pub record Intake (cs : List Corner) (n : ℕ) (before : List ℤ) (r : Checked)
   pub finds : Finds (intakeChecks cs n (length before)) r
   pub list : Later cs n before r later
 
--- ---- numbers into a lent list, which must be as long
+-- ---- numbers into a lent list, which must be at least as long
 abbrev pub putChecks : List ℤ → List ℤ → List Check
 putChecks numbers before = demand (length numbers ≤ length before) (refuse 10 0 0) ∷ []
 

@@ -8,7 +8,8 @@ use Rattle.whole.proofs.Order.{antisym}
 use Rattle.whole.proofs.Polynomial.{vars6, poly, by-ring}
 use Rattle.whole.proofs.Flag.{false-true, or-yes, or-left, or-right, and-yes, and-both, lt-true, le-true, true-lt, true-le}
 use Rattle.rules.specs.Ring.{Pt, On, Share}
-use Rattle.rules.proofs.Segment.{side, no-line, Apart, right, left, right′, left′, below, above, before, behind, Sep, ahead, after, by-x, by-y, by-edge, by-way}
+use Rattle.rules.specs.Side.{side}
+use Rattle.rules.proofs.Segment.{no-line, Apart, right, left, right′, left′, below, above, before, behind, Sep, ahead, after, by-x, by-y, by-edge, by-way}
 use Rattle.rules.proofs.On.{on-or-off, off-not-on}
 use Rattle.rules.proofs.Share.{pt-eq, share-or-apart, apart-not-share}
 use Rattle.decide.specs.Touch.{least, most, sameSide}

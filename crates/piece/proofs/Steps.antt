@@ -8,7 +8,7 @@ use mir.Val.{SFits}
 use Rattle.whole.proofs.Polynomial.{vars4, vars6, poly}
 use Rattle.whole.proofs.Range.{fits, abs-by, abs-mul-le, in-range}
 use Rattle.rules.specs.Reach.{Reach}
-use Rattle.rules.proofs.Segment.{side}
+use Rattle.rules.specs.Side.{side}
 use Rattle.piece.specs.Steps.{SideSteps, CrossSteps}
 
 pub reach-abs : (z : ℤ) → Reach z → natAbs z ≤ 16384

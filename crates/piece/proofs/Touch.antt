@@ -15,8 +15,8 @@ use Rattle.whole.proofs.Range.{fits, abs-by, abs-add, abs-sub, abs-mul-le, abs-
 use Rattle.rules.specs.Reach.{Speed, Run, Piece}
 use Rattle.rules.specs.Ring.{Pt, Ring}
 use Rattle.rules.specs.Place.{Where, on, inside, outside}
-use Rattle.rules.proofs.Reach.{RunKnown, PieceKnown}
-use Rattle.rules.proofs.Segment.{o}
+use Rattle.rules.specs.Good.{RunKnown, PieceKnown}
+use Rattle.rules.specs.Side.{o}
 use Rattle.decide.specs.Span.{Span, ticks, some, first}
 use Rattle.rules.specs.Verdict.{NONE}
 use Rattle.decide.specs.Touch.{least, most, swing, across, sameSide, onLine, within, onEdge, touch, touches, bandSpan, startPoint, over, pointOf, motion, place, fromPlace, meets}

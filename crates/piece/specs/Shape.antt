@@ -12,7 +12,7 @@ use Rattle.rules.specs.Reach.{Reach, Corners}
 use Rattle.rules.specs.Ring.{Pt, Ring, ring, from, to, On}
 use Rattle.rules.specs.Refusal.{First}
 use Rattle.rules.specs.Good.{Same, FirstMeet, Meet, area}
-use Rattle.rules.proofs.Segment.{o}
+use Rattle.rules.specs.Side.{o}
 use Rattle.decide.specs.Touch.{least, most, sameSide}
 use Rattle.piece.specs.Decide.{Seeks}
 use Rattle.piece.specs.Table.{AllBoxed}

@@ -2,7 +2,7 @@
 use lib.IntN.{ℤ, _-ℤ_, _*ℤ_}
 use mir.Syntax.{w64}
 use mir.Val.{SFits}
-use Rattle.rules.proofs.Segment.{side}
+use Rattle.rules.specs.Side.{side}
 
 -- each step of `side` fits
 pub record SideSteps (ax ay bx by px py : ℤ) : Type 0 where

@@ -21,7 +21,7 @@ ghost use mathlib.Core.List.{[]};
 ghost use Prim.Native.Nat.{min};
 ghost use lib.IntN.{_+ℤ_, _-ℤ_, _*ℤ_};
 ghost use Rattle.rules.specs.Ring.{ring};
-ghost use Rattle.rules.proofs.Reach.{RunKnown, PieceKnown};
+ghost use Rattle.rules.specs.Good.{RunKnown, PieceKnown};
 ghost use Rattle.rules.specs.Verdict.{NONE};
 ghost use Rattle.decide.specs.Touch.{swing, across, onLine, within, onEdge, touch, touches, pointOf, motion, bandSpan, startPoint, over, place, meets, code};
 ghost use Rattle.piece.specs.Numbers.{runOf, pieceOf};

@@ -13,7 +13,7 @@ ghost use mathlib.Core.Path.{_≡_};
 ghost use Prim.Native.Nat.{_*_, _+_, _<_};
 ghost use lib.IntN.{_-ℤ_, _*ℤ_};
 ghost use Rattle.rules.specs.Ring.{ring, next};
-ghost use Rattle.rules.proofs.Segment.{o};
+ghost use Rattle.rules.specs.Side.{o};
 ghost use Rattle.piece.specs.Shape.{Corner, equal, parted, boxes, aside, bends};
 
 // The number after i around a ring of n.

@@ -12,9 +12,9 @@ use Rattle.whole.specs.Front.{Front}
 use Rattle.rules.specs.Reach.{Run}
 use Rattle.rules.specs.Refusal.{refuse, Check, Passes, Fault, demand}
 use Rattle.rules.specs.Good.{runChecks}
-use Rattle.rules.specs.Verdict.{clear, blocked, NONE}
+use Rattle.rules.specs.Verdict.{blocked}
 use Rattle.rules.proofs.Reach.{run-known}
-use Rattle.rules.proofs.Checks.{passes-append, passes-left, fault-left, fault-right}
+use Rattle.rules.proofs.Checks.{passes-append, fault-left, fault-right, fault-past}
 use Rattle.rules.proofs.Good.{sharp-run}
 use Rattle.rules.proofs.Verdict.{mark-small, mark-answers}
 use Rattle.refusal.specs.declared.Refusal.{Refusal}
@@ -22,24 +22,21 @@ use Rattle.refusal.specs.declared.Refusal.the-variants.{Short}
 use Rattle.refusal.specs.Said.{said}
 use Rattle.block.specs.Reading.{pieceBlockChecks}
 use Rattle.block.specs.Verdicts.{VerdictOn, verdictInChecks}
-use Rattle.block.proofs.Found.{fault-past}
 use Rattle.block.proofs.PieceLaws.{block-passes}
 use Rattle.block.specs.Layout.{blockAt}
 use Rattle.room.specs.Image.{count, saidIn, headChecks, piecesCheck, roomChecks}
 use Rattle.room.specs.declared.Counted.the-variants.{Refused}
 use Rattle.room.specs.Verdicts.{verdictsChecks, CodeOf, Filled, VerdictsSay}
 use Rattle.room.specs.Codes.{CodesTo, AllCoded}
-use Rattle.room.proofs.Images.{fault-zero, head-few}
+use Rattle.room.proofs.Images.{fault-zero, few-pieces}
 
 -- ---- the code of a piece
 module _ (r : Run) (image : List ℕ) (i : ℕ) where
-  pub code-clear : VerdictOn r (blockAt image (suc i)) clear → CodeOf r image i NONE
-  code-clear v = record { piece = v .piece; block = v .same; good = v .good; verdict = v .verdict }
-
   pub code-mark : (k : ℕ) → VerdictOn r (blockAt image (suc i)) (blocked k) → CodeOf r image i k
   code-mark k v = record {
+    run = v .run;
     piece = v .piece;
-    block = v .same;
+    same = v .same;
     good = v .good;
     verdict = mark-answers r (v .piece) k (mark-small r (v .piece) k (run-known r (v .run) 6 (omega arith)) (v .verdict)) (v .verdict);
   }
@@ -51,7 +48,7 @@ module _ (r : Run) (image : List ℕ) (i : ℕ) where
 
 -- a piece that has a code passes
 pub code-passes : (r : Run) (image : List ℕ) (i c : ℕ) → CodeOf r image i c → Passes (pieceBlockChecks (blockAt image (suc i)))
-code-passes r image i c h = block-passes (blockAt image (suc i)) (h .piece) (h .block) (h .good)
+code-passes r image i c h = block-passes (blockAt image (suc i)) (h .piece) (h .same) (h .good)
 
 module _ (r : Run) (image : List ℕ) where
   pub codes-more : (codes : List ℕ) (i c : ℕ) → i < length codes → CodesTo r image codes i → CodeOf r image i c → CodesTo r image (set codes i c) (i + 1)
@@ -74,8 +71,7 @@ module _ (r : Run) (image : List ℕ) where
       (inl (i, said x, record { below = l; before = λ j k. code-passes r image j (getD codes j 0) (h j k); fault = f }, refl)))
 
   pub coded-few : (codes : List ℕ) (n : ℕ) → AllCoded r image codes n → n ≤ 126
-  unfolding roomChecks
-  coded-few codes n a = let e = a .pieces in let h = head-few image (passes-left (headChecks image) (piecesCheck image ∷ []) (a .passes)) in omega arith
+  coded-few codes n a = let e = a .pieces in let h = few-pieces image (a .passes) in omega arith
 
 -- a fault of the head is one of the room
 pub head-fault : (image : List ℕ) (x : Refusal) (b : ℕ) → Fault (headChecks image) (saidIn x b) → Fault (roomChecks image) (saidIn x b)
@@ -115,7 +111,6 @@ module _ (r : Run) (image : List ℕ) where
           record {
             passes = passes-append (runChecks r) (roomChecks image ++ last before) good (passes-append (roomChecks image) (last before) (all .passes) (omega arith, tt));
             pieces = e;
-            size = s .size;
             verdicts = λ i k. let l : i < n = omega arith in rw (s .first i l) (all .coded i k);
-            rest = λ i k. s .rest i (omega arith);
+            stays = record { size = s .stays .size; rest = λ i k. s .stays .rest i (omega arith) };
           }

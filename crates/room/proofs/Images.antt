@@ -8,6 +8,7 @@ use lib.ListN.{length, take, drop}
 use lib.Seq.{getD-take}
 use Rattle.rules.specs.Refusal as rules
 use Rattle.rules.specs.Refusal.{refuse, Check, Passes, Fault, demand}
+use Rattle.rules.specs.Reach.{Pieces}
 use Rattle.rules.proofs.Checks.{passes-append, passes-left, passes-right, fault-left, fault-right}
 use Rattle.refusal.specs.declared.Refusal.{Refusal}
 use Rattle.refusal.specs.declared.Refusal.the-variants.{Length, Check as Seal, Kind, Reach, Corners, Same, Fold, Meet, Clockwise, Short, NotNumber, Beyond, OffGrid}
@@ -17,7 +18,7 @@ use Rattle.block.specs.Reading.{headerChecks, HeaderSays}
 use Rattle.block.specs.declared.HeaderRead.the-variants.{Count as Pieced, NoHeader}
 use Rattle.block.proofs.Headers.{header-passes, header-one, header-is, header-count}
 use Rattle.room.specs.declared.Counted.the-variants.{Count, Refused}
-use Rattle.room.specs.Image.{count, Whole, saidIn, headChecks, HeadSays, Has}
+use Rattle.room.specs.Image.{count, Whole, saidIn, headChecks, piecesCheck, roomChecks, HeadSays, Has}
 
 -- outside a room the block is 0
 pub said-zero : (x : Refusal) → saidIn x 0 ≡ said x
@@ -88,6 +89,10 @@ pub part-is : (image : List ℕ) (i : ℕ) → take (512 * (i + 1) + 512 - 512 *
 unfolding blockAt
 part-is image i =
     let e : 512 * (i + 1) + 512 - 512 * (i + 1) ≡ 512 = omega arith in let f : 512 * (i + 1) ≡ 512 * suc i = omega arith in rw (e, f)
+
+pub few-pieces : (image : List ℕ) → Passes (roomChecks image) → Pieces (count image)
+unfolding roomChecks
+few-pieces image p = head-few image (passes-left (headChecks image) (piecesCheck image ∷ []) p)
 
 pub has-few : (image : List ℕ) (i : ℕ) → Has image i → i < 126
 has-few image i h = let f = head-few image (h .head) in let g = h .below in omega arith

@@ -1,27 +1,25 @@
 -- At most one step, and at most one answer and list of verdicts, meet their contracts; and the end and a refusal repeat. Assumes nothing.
 use mathlib.Core.Path.{_≡_, refl, sym, ap, subst, _∙_}
-use mathlib.Core.Logic.{⊎-elim}
 use mathlib.Core.List.{List, [], _∷_}
 use Prim.Native.Nat.{ℕ, suc, _≤_, _<_}
 use native.Mathlib.Omega.{arith}
 use lib.ListN.{getD}
-use lib.Seq.{ext-getD}
 use denote.Ref.{RefT}
-use Rattle.whole.proofs.Order.{ℕ-or}
+use Rattle.whole.proofs.Front.{stays-one}
 use Rattle.rules.specs.Reach.{Run, Piece}
 use Rattle.rules.specs.Refusal as rules
 use Rattle.rules.specs.Refusal.{Passes, Fault}
 use Rattle.rules.specs.Good.{runChecks}
-use Rattle.rules.specs.Verdict.{Verdict, answer}
+use Rattle.rules.specs.Verdict.{answer}
 use Rattle.rules.proofs.Checks.{only, Sharp, AllSharp, never-both, one-fault, sharp-demand, sharp-append}
 use Rattle.rules.proofs.Good.{sharp-run}
-use Rattle.rules.proofs.Verdict.{one-verdict, answer-one}
+use Rattle.rules.proofs.Verdict.{answer-one}
 use Rattle.refusal.specs.declared.Refusal.{Refusal}
 use Rattle.refusal.proofs.Unique.{said-one}
-use Rattle.block.specs.Reading.{headerChecks, pieceBlockChecks, PieceIn, Holds, PieceGood}
-use Rattle.block.proofs.PieceLaws.{good-in, piece-passes, piece-one}
+use Rattle.block.specs.Reading.{headerChecks, pieceBlockChecks, Holds}
+use Rattle.block.proofs.PieceLaws.{block-passes}
 use Rattle.block.proofs.Sharp.{sharp-header, sharp-piece-block}
-use Rattle.block.proofs.Unique.{holds-one, read-piece-one}
+use Rattle.block.proofs.Unique.{holds-one, read-piece-one, verdict-on-one}
 use Rattle.room.specs.declared.Counted.{Counted}
 use Rattle.room.specs.declared.Counted.the-variants.{Count, Refused as NoCount}
 use Rattle.room.specs.declared.Found.{Found}
@@ -94,9 +92,6 @@ module _ (image : List ℕ) (place : ℕ) where
   no-fault p h r (head f) = never-both (headChecks image) (sharp-head image) r p f
   no-fault p h r (block q l x f e) = h l x f
 
-  good-passes : (s : Step) → PieceGood (blockAt image (suc place)) (pieceRead s) → Passes (pieceBlockChecks (blockAt image (suc place)))
-  good-passes s g = subst (λ (l : List ℕ). Passes (pieceBlockChecks l)) (sym (g .same)) (piece-passes (g .piece) (g .good))
-
   past : (n : ℕ) → place < n → n ≤ place → ⊥
   past n h g = omega arith
 
@@ -105,11 +100,11 @@ module _ (image : List ℕ) (place : ℕ) where
       let q = read-piece-one (blockAt image (suc place)) (pieceRead s) (pieceRead t) (f .good) (g .good) in
       λ i. record { found = (d ∙ sym e) i; band = q i .band; corners = q i .corners; count = q i .count; next = (f .next ∙ sym (g .next)) i }
   finds-one s t Good End d e f g = absurd (past (count image) (f .below) (g .past))
-  finds-one s t Good (Refused y b) d e f g = absurd (no-fault (f .head) (λ l r h. clash image place r (good-passes s (f .good)) h) (saidIn y b) (g .fault))
+  finds-one s t Good (Refused y b) d e f g = absurd (no-fault (f .head) (λ l r h. clash image place r (block-passes (blockAt image (suc place)) (f .good .piece) (f .good .same) (f .good .good)) h) (saidIn y b) (g .fault))
   finds-one s t End Good d e f g = absurd (past (count image) (g .below) (f .past))
   finds-one s t End End d e f g = same-step s t _ (d ∙ sym e) (f .next ∙ sym (g .next)) (f .empty) (g .empty)
   finds-one s t End (Refused y b) d e f g = absurd (no-fault (f .head) (λ l r h. past (count image) l (f .past)) (saidIn y b) (g .fault))
-  finds-one s t (Refused x a) Good d e f g = absurd (no-fault (g .head) (λ l r h. clash image place r (good-passes t (g .good)) h) (saidIn x a) (f .fault))
+  finds-one s t (Refused x a) Good d e f g = absurd (no-fault (g .head) (λ l r h. clash image place r (block-passes (blockAt image (suc place)) (g .good .piece) (g .good .same) (g .good .good)) h) (saidIn x a) (f .fault))
   finds-one s t (Refused x a) End d e f g = absurd (no-fault (g .head) (λ l r h. past (count image) l (g .past)) (saidIn x a) (f .fault))
   finds-one s t (Refused x a) (Refused y b) d e f g =
       let q = fault-one (saidIn x a) (saidIn y b) (f .fault) (g .fault) in
@@ -136,21 +131,11 @@ reader-one r s image place f g = λ i. record { image = (f .0 ∙ sym (g .0)) i;
 
 -- ---- verdicts
 module _ (r : Run) (image : List ℕ) where
-  code-in : (i c : ℕ) (h : CodeOf r image i c) → PieceIn (blockAt image (suc i)) (h .piece)
-  code-in i c h = subst (λ (l : List ℕ). PieceIn l (h .piece)) (sym (h .block)) (good-in (h .piece) (h .good))
-
   pub code-one : (i c d : ℕ) → CodeOf r image i c → CodeOf r image i d → c ≡ d
-  code-one i c d h g =
-      let e = piece-one (blockAt image (suc i)) (h .piece) (g .piece) (code-in i c h) (code-in i d g) in
-      answer-one c d (one-verdict r (g .piece) (answer c) (answer d) (subst (λ (k : Piece). Verdict r k (answer c)) e (h .verdict)) (g .verdict))
+  code-one i c d h g = answer-one c d (verdict-on-one r (blockAt image (suc i)) (answer c) (answer d) h g)
 
   list-one : (before a b : List ℕ) (m n : ℕ) → Filled r image before a m → Filled r image before b n → a ≡ b
-  list-one before a b m n f g =
-      ext-getD 0 a b (f .size ∙ sym (g .size))
-      (λ i l. ⊎-elim
-      (λ (h : count image ≤ i). f .rest i h ∙ sym (g .rest i h))
-      (λ (h : i < count image). code-one i (getD a i 0) (getD b i 0) (f .verdicts i h) (g .verdicts i h))
-      (ℕ-or (count image) i))
+  list-one before a b m n f g = stays-one 0 (count image) before a b (f .stays) (g .stays) (λ i h. code-one i (getD a i 0) (getD b i 0) (f .verdicts i h) (g .verdicts i h))
 
   -- at most one answer, and one later content of the list
   pub verdicts-one : (before a b : List ℕ) (x y : Counted) → VerdictsSay r image before a x → VerdictsSay r image before b y → (x ≡ y) × (a ≡ b)

@@ -106,5 +106,5 @@ impl<'a> Reader<'a> {
 pub fn piece_at(image: &[u8], place: usize) -> Step
     ensures { λ r. ⌜ StepSays (now (image .entry)) place r ⌝ }
 {
-    Reader { image, place }.step()
+    step_at(image, place)
 }

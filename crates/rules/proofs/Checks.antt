@@ -71,3 +71,13 @@ passes-left (c ∷ cs) ds p = (p .0, passes-left cs ds (p .1))
 pub passes-right : (cs ds : List Check) → Passes (cs ++ ds) → Passes ds
 passes-right [] ds p = p
 passes-right (c ∷ cs) ds p = passes-right cs ds (p .1)
+
+-- where the first pass, the fault is among the others
+pub fault-past : (cs ds : List Check) → AllSharp cs → (r : Refusal) → Passes cs → Fault (cs ++ ds) r → Fault ds r
+fault-past [] ds a r p f = f
+fault-past (c ∷ cs) ds a r p f = ⊎-elim (λ h. absurd (a .0 .never r (p .0) h)) (λ h. fault-past cs ds (a .1) r (p .1) (h .1)) f
+
+-- where the others find none, the fault is among the first
+pub fault-within : (cs ds : List Check) (r : Refusal) → (Passes cs → Fault ds r → ⊥) → Fault (cs ++ ds) r → Fault cs r
+fault-within [] ds r n f = n tt f
+fault-within (c ∷ cs) ds r n f = ⊎-elim (λ h. inl h) (λ h. inr (h .0, fault-within cs ds r (λ p g. n (h .0, p) g) (h .1))) f

@@ -10,7 +10,8 @@ use Rattle.whole.proofs.Flag.{lt-true, le-true, le-false, true-lt, true-le, fal
 use Rattle.whole.proofs.Polynomial.{vars4, vars7, vars8, poly, by-ring}
 use Rattle.rules.specs.Ring.{Pt}
 use Rattle.rules.specs.Place.{Straddles, rightward, leftward, Above}
-use Rattle.rules.proofs.Segment.{o, side, mean-times, mean-at, gap-at, turn-o}
+use Rattle.rules.specs.Side.{o, side}
+use Rattle.rules.proofs.Segment.{mean-times, mean-at, gap-at, turn-o}
 use Rattle.rules.proofs.Crossing.{tst, crosses}
 use Rattle.rules.proofs.On.{on-turn}
 

@@ -12,7 +12,8 @@ use Rattle.whole.proofs.Order.{nn-mul, np-mul, pn-mul, pp-mul, neg-mul, not-lt,
 use Rattle.whole.proofs.Flag.{lt-true, lt-false, le-true, le-false, true-lt, false-lt, true-le, false-le}
 use Rattle.rules.specs.Ring.{Pt, Ring, from, to}
 use Rattle.rules.proofs.Ring.{next-inner, next-last}
-use Rattle.rules.proofs.Segment.{o, side, Apart, right, left, right′, left′, below, above, before, behind}
+use Rattle.rules.specs.Side.{o, side}
+use Rattle.rules.proofs.Segment.{Apart, right, left, right′, left′, below, above, before, behind}
 
 abbrev pub tst : Bool → Bool → ℤ → Bool
 tst true true z = false

@@ -12,7 +12,7 @@ use Rattle.whole.proofs.Flag.{same-flag, decided, false-true}
 use Rattle.whole.proofs.Polynomial.{vars9, poly, by-ring}
 use Rattle.rules.specs.Ring.{Pt, Ring, from, to, On}
 use Rattle.rules.specs.Place.{OnRing, Counted, Count, start, more, pass, Where, on, inside, outside, Parity, Place}
-use Rattle.rules.proofs.Segment.{o, side}
+use Rattle.rules.specs.Side.{o, side}
 use Rattle.rules.proofs.Crossing.{tst, xor, xor-unit, crosses, flag, parity, parity-ext}
 use Rattle.rules.proofs.Counted.{counted-yes, yes-counted}
 use Rattle.rules.proofs.On.{on-or-off, off-not-on, move, on-move, on-unmove}

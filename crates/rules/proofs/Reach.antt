@@ -7,7 +7,7 @@ use lib.Signed.{_≤ℤ_}
 use Rattle.whole.proofs.Order.{le-or-lt, clash, ℕ-or}
 use Rattle.rules.specs.Reach.{Between, Ticks, Run, Piece}
 use Rattle.rules.specs.Refusal.{Passes}
-pub use Rattle.rules.specs.Good.{RunKnown, PieceKnown}
+use Rattle.rules.specs.Good.{RunKnown, PieceKnown}
 use Rattle.rules.specs.Good.{runNumber, bandNumber, runChecks, pieceChecks, sizedCheck, bandCheck, shapeChecks}
 
 -- what is not known to fail, holds: these facts are decided

@@ -8,13 +8,7 @@ use Rattle.whole.proofs.Difference.{all2, all3, all4, ring}
 use Rattle.whole.proofs.Polynomial.{vars3, vars4, vars6, vars7, vars8, vars10, poly, num-val, by-ring}
 use Rattle.whole.proofs.Order.{np-mul, pos-neg-mul, neg-not, pos-not, turn-le, turn-ge, turn-gt, le-sub, lt-sub, sub-mono, sub-lt, sub-le, le-trans, le-lt-trans, lt-le, le-or-lt, clash, Tri, less, same, more, tri}
 use Rattle.rules.specs.Ring.{Pt}
-
--- twice the side of a b p, positive where p is to the left of a → b
-abbrev pub o : Pt → Pt → Pt → ℤ
-o a b p = (b .x -ℤ a .x) *ℤ (p .y -ℤ a .y) -ℤ (b .y -ℤ a .y) *ℤ (p .x -ℤ a .x)
-
-abbrev pub side : ℤ → ℤ → ℤ → ℤ → ℤ → ℤ → ℤ
-side ax ay bx by px py = (bx -ℤ ax) *ℤ (py -ℤ ay) -ℤ (by -ℤ ay) *ℤ (px -ℤ ax)
+use Rattle.rules.specs.Side.{side, o}
 
 -- a segment of one point has no sides
 pub no-line : (px py vx vy : ℤ) → side px py px py vx vy ≡ pos 0

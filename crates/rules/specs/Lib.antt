@@ -1,5 +1,6 @@
 pub mod Reach
 pub mod Ring
+pub mod Side
 pub mod Refusal
 pub mod Good
 pub mod Place

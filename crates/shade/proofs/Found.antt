@@ -1,42 +1,26 @@
 -- What the run and the room were found to be decides which text answers. Assumes nothing.
 use mathlib.Core.Path.{_≡_, sym, ap, _∙_}
-use mathlib.Core.Logic.{inl, inr, ⊎-elim}
+use mathlib.Core.Logic.{⊎-elim}
 use mathlib.Core.List.{List, [], _∷_, _++_}
 use Prim.Native.Nat.{ℕ, _-_, _≤_}
 use native.Mathlib.Omega.{arith}
 use lib.ListN.{length, take, drop, length-take, length-drop}
 use lib.Seq.{take-all}
-use Rattle.rules.specs.Reach.{Run, Pieces}
-use Rattle.rules.specs.Refusal.{Refusal, Check, Passes, Fault, demand, refuse}
+use Rattle.rules.specs.Reach.{Run}
+use Rattle.rules.specs.Refusal.{Refusal, Passes, Fault, demand, refuse}
 use Rattle.rules.specs.Good.{runChecks}
-use Rattle.rules.proofs.Checks.{AllSharp, passes-left, passes-right}
+use Rattle.rules.proofs.Checks.{fault-past, fault-within, passes-left, passes-right}
 use Rattle.rules.proofs.Good.{sharp-run}
-use Rattle.room.specs.Image.{count, inBlock, headChecks, piecesCheck, roomChecks}
-use Rattle.room.proofs.Images.{head-few}
+use Rattle.room.specs.Image.{count, inBlock, roomChecks}
+use Rattle.room.proofs.Images.{few-pieces}
 use Rattle.room.specs.Verdicts.{verdictsChecks, Filled}
 use Rattle.shade.specs.Put.{Puts}
 use Rattle.shade.specs.Text.{page, lengthChecks, roomPart, Page}
-
--- ---- checks in a row
--- where the first pass, the fault is among the others
-fault-beyond : (cs ds : List Check) → AllSharp cs → (x : Refusal) → Passes cs → Fault (cs ++ ds) x → Fault ds x
-fault-beyond [] ds a x p f = f
-fault-beyond (c ∷ cs) ds a x p f = ⊎-elim (λ h. absurd (a .0 .never x (p .0) h)) (λ h. fault-beyond cs ds (a .1) x (p .1) (h .1)) f
-
--- where the others find none, the fault is among the first
-fault-within : (cs ds : List Check) (x : Refusal) → (Passes cs → Fault ds x → ⊥) → Fault (cs ++ ds) x → Fault cs x
-fault-within [] ds x n f = n tt f
-fault-within (c ∷ cs) ds x n f = ⊎-elim (λ h. inl h) (λ h. inr (h .0, fault-within cs ds x (λ p g. n (h .0, p) g) (h .1))) f
 
 -- a wrong length is refused by itself
 pub alone : (input : List ℕ) (x : Refusal) → Fault (lengthChecks input) x → inBlock 0 x ≡ x
 unfolding lengthChecks
 alone input x f = ⊎-elim (λ h. ap (λ y. inBlock 0 y) (h .1) ∙ sym (h .1)) (λ h. absurd (h .1)) f
-
--- ---- a good room has at most 126 pieces
-few-pieces : (image : List ℕ) → Passes (roomChecks image) → Pieces (count image)
-unfolding roomChecks
-few-pieces image p = head-few image (passes-left (headChecks image) (piecesCheck image ∷ []) p)
 
 -- the part after the run block
 pub rest : (input : List ℕ) → take (length input - 512) (drop 512 input) ≡ roomPart input
@@ -48,7 +32,7 @@ unfolding verdictsChecks
 room-fault r image list good long x f =
     let short = demand (count image ≤ length list) (refuse 10 0 0) ∷ [] in
     fault-within (roomChecks image) short x (λ p g. ⊎-elim (λ h. h .0 (omega (arith, few-pieces image p))) (λ h. h .1) g)
-    (fault-beyond (runChecks r) (roomChecks image ++ short) (sharp-run r) x good f)
+    (fault-past (runChecks r) (roomChecks image ++ short) (sharp-run r) x good f)
 
 module _ (r : Run) (image list after : List ℕ) (n : ℕ) (f : Filled r image list after n) where
   room-passes : Passes (roomChecks image)

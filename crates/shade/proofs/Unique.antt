@@ -5,14 +5,14 @@ use Prim.Native.Nat.{ℕ, zero, suc, _<_}
 use native.Mathlib.Omega.{arith}
 use lib.ListN.{getD}
 use Rattle.rules.specs.Reach.{Run}
-use Rattle.rules.specs.Refusal.{Refusal, Passes, Fault}
+use Rattle.rules.specs.Refusal.{Refusal, Fault}
 use Rattle.rules.proofs.Checks.{AllSharp, sharp-demand, never-both, one-fault}
-use Rattle.block.specs.Reading.{RunIn, runBlockChecks}
-use Rattle.block.proofs.RunLaws.{run-one, run-passes, good-in}
+use Rattle.block.specs.Reading.{runBlockChecks, RunGood}
+use Rattle.block.proofs.RunLaws.{run-one, block-in, block-passes}
 use Rattle.block.proofs.Sharp.{sharp-run-block}
 use Rattle.room.specs.Image.{count, roomChecks}
 use Rattle.room.proofs.Unique.{sharp-room, code-one}
-use Rattle.shade.specs.Text.{runLine, roomLine, pieceLines, page, Whole, lengthChecks, runPart, roomPart, RunGiven, Page, Answers, badLength, badRun, badRoom, verdicts}
+use Rattle.shade.specs.Text.{runLine, roomLine, pieceLines, page, Whole, lengthChecks, runPart, roomPart, Page, Answers, badLength, badRun, badRoom, verdicts}
 
 -- ---- the same codes, the same page
 lines-one : (l m : List ℕ) (n : ℕ) → ((i : ℕ) → i < n → getD l i 0 ≡ getD m i 0) → pieceLines l n ≡ pieceLines m n
@@ -35,13 +35,10 @@ module _ (input : List ℕ) where
   unfolding lengthChecks
   no-length w x f = never-both (lengthChecks input) sharp-length x (w, tt) f
 
-  no-run : (r : Run) → RunGiven input r → (x : Refusal) → Fault (runBlockChecks (runPart input)) x → ⊥
+  no-run : (r : Run) → RunGood (runPart input) r → (x : Refusal) → Fault (runBlockChecks (runPart input)) x → ⊥
   no-run r g x f =
       never-both (runBlockChecks (runPart input)) (sharp-run-block (runPart input)) x
-      (subst (λ l. Passes (runBlockChecks l)) (sym (g .same)) (run-passes r (g .good))) f
-
-  held : (r : Run) → RunGiven input r → RunIn (runPart input) r
-  held r g = subst (λ l. RunIn l r) (sym (g .same)) (good-in r (g .good))
+      (block-passes (runPart input) r g) f
 
   same-page : (r : Run) (a b : List ℕ) → Page r input a → Page r input b → a ≡ b
   same-page r a b p q =
@@ -65,4 +62,4 @@ module _ (input : List ℕ) where
   one-text a b (verdicts v r u p) (badRun w y g h) = absurd (no-run r u y g)
   one-text a b (verdicts v r u p) (badRoom w s t y g h) = absurd (never-both (roomChecks (roomPart input)) (sharp-room (roomPart input)) y (p .room) g)
   one-text a b (verdicts v r u p) (verdicts w s t q) =
-      same-page s a b (subst (λ k. Page k input a) (run-one (runPart input) r s (held r u) (held s t)) p) q
+      same-page s a b (subst (λ k. Page k input a) (run-one (runPart input) r s (block-in (runPart input) r u) (block-in (runPart input) s t)) p) q

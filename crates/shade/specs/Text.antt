@@ -7,10 +7,9 @@ use lib.Dec.{eqb, ltb}
 use lib.ListN.{getD, take, drop}
 use Rattle.rules.specs.Reach.{Run}
 use Rattle.rules.specs.Refusal.{Refusal, refuse, Check, Fault, Passes, demand}
-use Rattle.rules.specs.Good.{runChecks}
 use Rattle.rules.specs.Verdict.{NONE}
-use Rattle.block.specs.Layout.{Blocks, runBlock}
-use Rattle.block.specs.Reading.{runBlockChecks}
+use Rattle.block.specs.Layout.{Blocks}
+use Rattle.block.specs.Reading.{runBlockChecks, RunGood}
 use Rattle.room.specs.Image.{count, roomChecks}
 use Rattle.room.specs.Verdicts.{CodeOf}
 use Rattle.shade.specs.Put.{Puts}
@@ -90,11 +89,6 @@ runPart input = take 512 input
 abbrev pub roomPart : List ℕ → List ℕ
 roomPart input = drop 512 input
 
--- the first block is that of the run r, which is good
-pub record RunGiven (input : List ℕ) (r : Run) : Type 0 where
-  pub same : runPart input ≡ runBlock r
-  pub good : Passes (runChecks r)
-
 -- a good room: its piece count, and the verdict on each piece
 pub record Page (r : Run) (input out : List ℕ) : Type 0 where
   pub room : Passes (roomChecks (roomPart input))
@@ -106,8 +100,8 @@ pub record Page (r : Run) (input out : List ℕ) : Type 0 where
 pub data Answers (input out : List ℕ) : Type 0 where
   badLength : (x : Refusal) → Fault (lengthChecks input) x → out ≡ roomLine x → Answers input out
   badRun : Whole input → (x : Refusal) → Fault (runBlockChecks (runPart input)) x → out ≡ runLine x → Answers input out
-  badRoom : Whole input → (r : Run) → RunGiven input r → (x : Refusal) → Fault (roomChecks (roomPart input)) x → out ≡ roomLine x → Answers input out
-  verdicts : Whole input → (r : Run) → RunGiven input r → Page r input out → Answers input out
+  badRoom : Whole input → (r : Run) → RunGood (runPart input) r → (x : Refusal) → Fault (roomChecks (roomPart input)) x → out ≡ roomLine x → Answers input out
+  verdicts : Whole input → (r : Run) → RunGood (runPart input) r → Page r input out → Answers input out
 
 -- a text that answers the input is put at the buffer's begin
 pub record Prints (input before after : List ℕ) (n : ℕ) : Type 0 where

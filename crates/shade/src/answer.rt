@@ -14,7 +14,8 @@ ghost use lib.ListN.{length};
 ghost use Rattle.piece.specs.Numbers.{runOf};
 ghost use Rattle.refusal.specs.Said.{Finds};
 ghost use Rattle.io.specs.Counts.{Counts};
-ghost use Rattle.shade.specs.Text.{Whole, lengthChecks, RunGiven, Prints};
+ghost use Rattle.block.specs.Reading.{RunGood};
+ghost use Rattle.shade.specs.Text.{Whole, lengthChecks, runPart, Prints};
 
 fn check_length(input: &[u8]) -> Checked
     ensures { λ r. ⌜ Finds (lengthChecks (now (input .entry))) r ⌝ }
@@ -34,7 +35,7 @@ fn check_length(input: &[u8]) -> Checked
 
 // A good run: the room's verdicts. The list has an element for each piece that a room can have, so it is never too short.
 fn answer_room(run: Run, input: &[u8], out: &mut [u8]) -> usize
-    requires { ⌜ (8192 ≤ length (now out)) × Whole (now input) × RunGiven (now input) (runOf run) ⌝ }
+    requires { ⌜ (8192 ≤ length (now out)) × Whole (now input) × RunGood (runPart (now input)) (runOf run) ⌝ }
     ensures { λ r. ⌜ Prints (now (input .entry)) (now (out .entry)) (now (out .exit)) r ⌝ }
 {
     let mut codes = [0u32; 126];

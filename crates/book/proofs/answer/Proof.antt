@@ -8,7 +8,7 @@ use denote.Ref.{now}
 use Rattle.rules.specs.Good.{pieceChecks}
 use Rattle.rules.proofs.Reach.{run-known}
 use Rattle.piece.specs.Numbers.{runOf, pieceOf}
-use Rattle.block.proofs.Found.{found-good, found-bad}
+use Rattle.refusal.proofs.Finds.{found-good, found-bad}
 use Rattle.book.proofs.Lay.{ready, laid-good}
 use Rattle.book.proofs.Found.{in-book, piece-fault, hits, works}
 use Rattle.book.proofs.answer.Statement.{statement}

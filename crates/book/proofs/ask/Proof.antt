@@ -6,7 +6,7 @@ use borrow.Author.Needs.{needs}
 use denote.Ref.{now}
 use Rattle.rules.specs.Good.{runChecks}
 use Rattle.piece.specs.Numbers.{runOf, pieceOf}
-use Rattle.block.proofs.Found.{found-good, found-bad}
+use Rattle.refusal.proofs.Finds.{found-good, found-bad}
 use Rattle.book.specs.Entry.{Slots}
 use Rattle.book.specs.Ask.{askChecks}
 use Rattle.book.proofs.Found.{run-faulty}

@@ -53,7 +53,7 @@ loop-again c =
     (omega arith, front-more (pos 0) numbers _ (s .loop .list) j _ (field w32 (getD numbers j (pos 0)) (omega (arith, c .list .given))) (omega arith) (s .loop .inv .1))
 
 same-length : tie.Need-same-length Inv-loop μ-loop
-same-length c = c .before .loop .inv .1 .size
+same-length c = c .before .loop .inv .1 .stays .size
 
 returns-2 : tie.Need-returns-2 Inv-loop μ-loop
 returns-2 c =

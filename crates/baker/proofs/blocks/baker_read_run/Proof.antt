@@ -28,7 +28,7 @@ enum-known-run : tie.Need-enum-known-run
 enum-known-run c = search needs
 
 put-run-requires : tie.Need-put-run-requires
-put-run-requires c κs = let g = c .before .before .run .given in good-ticks (runOf (g .0 .0)) (found (c .before .before) .0)
+put-run-requires c κs = let g = c .before .before .run .given in good-ticks (runOf (g .0 .0)) (found (c .before .before) .good)
 
 returns : tie.Need-returns
 returns c =

@@ -23,7 +23,7 @@ shared-slice-read-block : tie.Need-shared-slice-read-block Inv-loop μ-loop
 shared-slice-read-block c = search needs
 
 slice-write-block : tie.Need-slice-write-block Inv-loop μ-loop
-slice-write-block c = omega (arith, c .before .before .loop .inv .1 .size)
+slice-write-block c = omega (arith, c .before .before .loop .inv .1 .stays .size)
 
 add-i : tie.Need-add-i Inv-loop μ-loop
 add-i c = search needs
@@ -32,10 +32,10 @@ loop-less : tie.Need-loop-less Inv-loop μ-loop
 loop-less c = search needs
 
 loop-again : tie.Need-loop-again Inv-loop μ-loop
-loop-again c = let v = c .before .before .loop in (omega arith, front-more 0 _ _ (v .block) (v .i) _ refl (omega (arith, v .inv .1 .size)) (v .inv .1))
+loop-again c = let v = c .before .before .loop in (omega arith, front-more 0 _ _ (v .block) (v .i) _ refl (omega (arith, v .inv .1 .stays .size)) (v .inv .1))
 
 same-length : tie.Need-same-length Inv-loop μ-loop
-same-length c = c .before .loop .inv .1 .size
+same-length c = c .before .loop .inv .1 .stays .size
 
 returns : tie.Need-returns Inv-loop μ-loop
 returns c =

@@ -3,7 +3,7 @@ use native.Mathlib.Omega.{arith}
 use denote.Ref.{now}
 use Rattle.rules.specs.Refusal.{Passes}
 use Rattle.block.specs.Reading.{headerChecks}
-use Rattle.block.proofs.Found.{found-good, found-bad}
+use Rattle.refusal.proofs.Finds.{found-good, found-bad}
 use Rattle.block.proofs.Headers.{header-length, header-count, header-is}
 use borrow.Author.Needs.{needs}
 use Rattle.block.proofs.header.read_header.Statement.{statement}

@@ -2,7 +2,7 @@
 use denote.Ref.{now}
 use Rattle.rules.proofs.Checks.{fault-left}
 use Rattle.block.specs.Reading.{blockChecks, bytesOf}
-use Rattle.block.proofs.Found.{finds-right, found-good, found-bad}
+use Rattle.refusal.proofs.Finds.{finds-right, found-good, found-bad}
 use borrow.Author.Needs.{needs}
 use Rattle.block.proofs.kind.check_kind.Statement.{statement}
 use Rattle.block.proofs.kind.check_kind.Tie as tie

@@ -20,15 +20,15 @@ returns c = (inl (c .if1 .taken, refl), refl)
 
 returns-2 : tie.Need-returns-2
 unfolding partsAsked
-returns-2 c = (inr (c .before .if1 .left, inl (λ h. omega (arith, h .0, c .if2 .taken), refl)), refl)
+returns-2 c = (inr (c .before .if1 .left, inl (λ h. omega (arith, h .begin, c .if2 .taken), refl)), refl)
 
 returns-3 : tie.Need-returns-3
 unfolding partsAsked
-returns-3 c = (inr (c .before .before .if1 .left, inl (λ h. omega (arith, h .1, c .if3 .taken), refl)), refl)
+returns-3 c = (inr (c .before .before .if1 .left, inl (λ h. omega (arith, h .end, c .if3 .taken), refl)), refl)
 
 returns-4 : tie.Need-returns-4
 unfolding partsAsked
-returns-4 c = (inr (c .before .before .before .if1 .left, inl (λ h. omega (arith, h .1, c .if4 .taken), refl)), refl)
+returns-4 c = (inr (c .before .before .before .if1 .left, inl (λ h. omega (arith, h .end, c .if4 .taken), refl)), refl)
 
 sums-at-requires : tie.Need-sums-at-requires
 sums-at-requires c κs = search needs
@@ -69,7 +69,7 @@ returns-5 c =
     let long : length m ≡ 512 = w .kept .1 .1 .1 .0 ∙ n in
     let plain = plain-same m (filled at f ++ l) (w .ensures) ∙ plain-parts f l at k h (p .result .plain) (p .result .weighed) (q .result .plain) (q .result .weighed) (p .ensures) (q .ensures) in
     let weighed = weighed-same m (filled at f ++ l) (w .ensures) ∙ weighed-parts f l at k h (p .result .plain) (p .result .weighed) (q .result .plain) (q .result .weighed) (p .ensures) (q .ensures) in (
-      (n, ((k, h), tt)),
+      (n, (record { begin = k; end = h }, tt)),
       ap (λ x. set (set m 510 x) 511 ((p .result .weighed + q .result .weighed) % 255)) (sym plain)
           ∙ ap (λ x. set (set m 510 (plainSum m)) 511 x) (sym weighed)
           ∙ sealing-is m long (filled at f ++ l) (both-few f l at k h) (w .ensures),

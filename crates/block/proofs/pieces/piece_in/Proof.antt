@@ -9,7 +9,7 @@ use Rattle.rules.specs.Good.{pieceChecks}
 use Rattle.refusal.specs.declared.Checked.the-variants.{Good}
 use Rattle.piece.specs.Numbers.{pieceOf}
 use Rattle.block.specs.Layout.{byte}
-use Rattle.block.proofs.Found.{found-good, found-bad}
+use Rattle.refusal.proofs.Finds.{found-good, found-bad}
 use Rattle.block.proofs.PieceLaws.{block-long, count-most, inside-fault, piece-in, piece-holds, says-refused}
 use borrow.Author.Needs.{needs}
 use Rattle.block.proofs.pieces.piece_in.Statement.{statement}

@@ -2,7 +2,7 @@
 use mathlib.Core.List.{_++_}
 use denote.Ref.{now}
 use Rattle.block.specs.Reading.{blockChecks, pieceBytes}
-use Rattle.block.proofs.Found.{found-good, found-bad}
+use Rattle.refusal.proofs.Finds.{found-good, found-bad}
 use Rattle.block.proofs.PieceLaws.{bytes-fault, says-refused}
 use borrow.Author.Needs.{needs}
 use Rattle.block.proofs.pieces.read_piece.Statement.{statement}

@@ -8,7 +8,7 @@ use Rattle.rules.specs.Good.{pieceChecks}
 use Rattle.piece.specs.Numbers.{pieceOf}
 use Rattle.block.specs.Layout.{blockOf}
 use Rattle.block.specs.Reading.{pieceAsked}
-use Rattle.block.proofs.Found.{found-good, found-bad}
+use Rattle.refusal.proofs.Finds.{found-good, found-bad}
 use Rattle.block.proofs.PieceLaws.{sized-most, good-sized, piece-block}
 use Rattle.block.proofs.pieces.write_piece.Statement.{statement}
 use Rattle.block.proofs.pieces.write_piece.Tie as tie

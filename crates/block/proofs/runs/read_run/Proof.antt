@@ -6,7 +6,7 @@ use Rattle.rules.specs.Good.{runChecks}
 use Rattle.rules.proofs.Checks.{fault-left, fault-right, passes-left}
 use Rattle.piece.specs.Numbers.{runOf}
 use Rattle.block.specs.Reading.{blockChecks, runBytes, runBlockChecks, RunIn, inside}
-use Rattle.block.proofs.Found.{found-good, found-bad}
+use Rattle.refusal.proofs.Finds.{found-good, found-bad}
 use Rattle.block.proofs.RunLaws.{run-in}
 use borrow.Author.Needs.{needs}
 use Rattle.block.proofs.runs.read_run.Statement.{statement}
@@ -52,10 +52,11 @@ returns-2 c =
 returns-3 : tie.Need-returns-3
 returns-3 c =
     let l = now (c .before .before .before .before .before .before .before .before .args .block) in let r = c .before .before .before .run-at .result in
-    let p = found-good (blockChecks l ++ runBytes l) _ (c .before .before .before .before .before .before .check-kind .ensures) (c .before .before .before .before .enum-told .given .1) in (
-      found-good (runChecks (runOf r)) _ (c .before .before .check-run .ensures) (c .enum-told2 .given .1),
-      run-in l r (c .before .before .before .run-at .ensures) (c .before .before .before .before .before .before .before .shared-slice-known .given) p .same,
-    )
+    let p = found-good (blockChecks l ++ runBytes l) _ (c .before .before .before .before .before .before .check-kind .ensures) (c .before .before .before .before .enum-told .given .1) in
+    record {
+      good = found-good (runChecks (runOf r)) _ (c .before .before .check-run .ensures) (c .enum-told2 .given .1);
+      same = run-in l r (c .before .before .before .run-at .ensures) (c .before .before .before .before .before .before .before .shared-slice-known .given) p .same;
+    }
 
 pub read-run-spec : {M : Type 1} → statement M
 read-run-spec =

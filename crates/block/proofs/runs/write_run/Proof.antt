@@ -6,7 +6,7 @@ use Rattle.rules.specs.Good.{runChecks}
 use Rattle.piece.specs.Numbers.{runOf}
 use Rattle.block.specs.Layout.{blockOf, runBlock}
 use Rattle.block.specs.Reading.{runAsked}
-use Rattle.block.proofs.Found.{found-good, found-bad}
+use Rattle.refusal.proofs.Finds.{found-good, found-bad}
 use Rattle.block.proofs.runs.write_run.Statement.{statement}
 use Rattle.block.proofs.runs.write_run.Tie as tie
 

@@ -3,12 +3,12 @@ use Prim.Native.Nat.{_-_, _≤_}
 use native.Mathlib.Omega.{arith}
 use borrow.Author.Needs.{needs}
 use Rattle.piece.proofs.Decide.{Below, none-yet, one-more, stop, seeks-end}
-use Rattle.block.specs.Reading.{Named}
+use Rattle.block.specs.Reading.{NotZero}
 use Rattle.block.proofs.scan.zeros_at.Statement.{statement}
 use Rattle.block.proofs.scan.zeros_at.Tie as tie
 
 abbrev Inv-loop : tie.InvT-loop
-Inv-loop block from j₀ j = (j ≤ 510 - from) × Below (Named block from) j
+Inv-loop block from j₀ j = (j ≤ 510 - from) × Below (NotZero block from) j
 
 abbrev μ-loop : tie.MeasureT-loop
 μ-loop block from j₀ j = 510 - from - j

@@ -5,7 +5,7 @@ use Rattle.rules.specs.Refusal.{Passes}
 use Rattle.rules.specs.Good.{runChecks}
 use Rattle.piece.specs.Numbers.{runOf}
 use Rattle.block.specs.Reading.{blockChecks, pieceBytes}
-use Rattle.block.proofs.Found.{found-good, found-bad}
+use Rattle.refusal.proofs.Finds.{found-good, found-bad}
 use Rattle.block.proofs.VerdictLaws.{run-refused, bytes-refused}
 use borrow.Author.Needs.{needs}
 use Rattle.block.proofs.verdicts.verdict_in.Statement.{statement}

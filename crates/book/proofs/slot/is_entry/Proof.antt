@@ -40,7 +40,7 @@ returns c =
     let l = length-take-le n f (omega (arith, padded-length f (b .args .size) p, p .within)) in
     let e = ap (λ (x : List ℕ). blockOf (filled 283 (take n f) ++ x)) (v .ensures) ∙ ap (λ (x : List ℕ). blockOf (x ++ four (b .args .code))) (sym (p .zeros)) in
     decide-by _ (w .result) (λ t. let q = yes _ (w .result) (w .ensures) t in q .same ∙ e)
-    (λ t g. no _ (w .result) (w .ensures) t (record { begin = omega (arith, l, p .within); end = omega (arith, ap length (v .ensures)); same = g ∙ sym e }))
+    (λ t g. no _ (w .result) (w .ensures) t (record { fit = record { begin = omega (arith, l, p .within); end = omega (arith, ap length (v .ensures)) }; same = g ∙ sym e }))
 
 pub is-entry-spec : {M : Type 1} → statement M
 is-entry-spec =

@@ -46,7 +46,7 @@ returns c =
     let four-is = c .before .before .before .before .before .before .bytes-of .ensures in let l = c .before .before .before .before .before .before .bytes-of .result in
     let e = length-take-le n f (omega (arith, padded-length f (b .args .size) p, p .within)) in
     written (partsAsked s (take n f) l 283) (sharp-parts-asked s (take n f) l 283) (blockOf (filled 283 (take n f) ++ l)) s (w .last .1 .1 .1 .0) (w .result) (w .ensures)
-    (b .pre .1, ((omega (arith, e, p .within), omega (arith, ap length four-is)), tt)) .1
+    (b .pre .1, (record { begin = omega (arith, e, p .within); end = omega (arith, ap length four-is) }, tt)) .1
     ∙ ap (λ (x : List ℕ). blockOf (filled 283 (take n f) ++ x)) four-is
     ∙ ap (λ (x : List ℕ). blockOf (x ++ four (b .args .code))) (sym (p .zeros))
 

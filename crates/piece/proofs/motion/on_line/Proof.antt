@@ -6,7 +6,7 @@ use lib.IntN.{ℤ, negℤ, natAbs}
 use mir.Syntax.{w64}
 use mir.Val.{toZ, ofZ}
 use Rattle.whole.proofs.Range.{read}
-use Rattle.rules.proofs.Segment.{o}
+use Rattle.rules.specs.Side.{o}
 use Rattle.decide.specs.Span as decide
 use Rattle.decide.specs.Touch.{swing, onLine}
 use Rattle.piece.specs.Moving.{spanOf, Small, Slope}

@@ -1,6 +1,6 @@
 -- `spot::is_on` is what it says. Assumes nothing.
 use Rattle.piece.specs.Place.{pt}
-use Rattle.rules.proofs.Segment.{o}
+use Rattle.rules.specs.Side.{o}
 use Rattle.rules.specs.Ring.{Pt}
 use lib.IntN.{pos}
 use Rattle.decide.specs.Touch.{least, most, ranged, isOn}

@@ -10,7 +10,7 @@ use Rattle.piece.specs.Numbers.{runOf}
 use Rattle.block.specs.Layout.{blockAt}
 use Rattle.block.specs.Verdicts.{VerdictInSays}
 use Rattle.room.proofs.Images.{part-is, has-few, has-long}
-use Rattle.room.proofs.Coding.{code-clear, code-mark, code-none}
+use Rattle.room.proofs.Coding.{code-mark, code-none}
 use borrow.Author.Needs.{needs}
 use Rattle.room.proofs.pass.code_of.Statement.{statement}
 use Rattle.room.proofs.pass.code_of.Tie as tie
@@ -53,7 +53,7 @@ enum-known-x : tie.Need-enum-known-x
 enum-known-x c = search needs
 
 returns : tie.Need-returns
-returns c = let d = c .before .before in let a = d .before .before .before .args in code-clear (runOf (a .run)) (now (a .image)) (a .i) (told d Clear (c .enum-told .given .1))
+returns c = told (c .before .before) Clear (c .enum-told .given .1)
 
 returns-2 : tie.Need-returns-2
 returns-2 c =

@@ -40,7 +40,7 @@ loop-again : tie.Need-loop-again Inv-loop μ-loop
 loop-again c = (search needs, front-more 0 _ _ (c .before .before .loop .list) (c .before .before .loop .k) _ refl (omega arith) (c .before .before .loop .inv .1))
 
 same-length : tie.Need-same-length Inv-loop μ-loop
-same-length c = c .before .loop .inv .1 .size
+same-length c = c .before .loop .inv .1 .stays .size
 
 returns : tie.Need-returns Inv-loop μ-loop
 returns c =

@@ -26,7 +26,7 @@ enum-known-read-2 c = search needs
 answer-room-requires : tie.Need-answer-room-requires
 answer-room-requires c κs =
     let e = c .before .before .read2 .given .1 in let h = rw e at (c .before .before .before .before .read-run .ensures) in
-    (search needs, c .before .before .before .before .before .before .before .before .pre .1, record { same = h .1; good = h .0 })
+    (search needs, c .before .before .before .before .before .before .before .before .pre .1, h)
 
 same-length : tie.Need-same-length
 same-length c = search needs

@@ -39,7 +39,7 @@ slice-aggregate-put-page c = search needs
 put-page-requires : tie.Need-put-page-requires
 put-page-requires c κs =
     let start = c .before .before .before .before .before .before .before .before .before .before .before in let e = c .before .before .before .counted2 .given .1 in let v = c .before .before .before .before .before .before .verdicts .ensures in let w = rw e at v in
-    let h = few (runOf (start .args .run)) _ _ _ _ w in (omega arith, omega (arith, w .size))
+    let h = few (runOf (start .args .run)) _ _ _ _ w in (omega arith, omega (arith, w .stays .size))
 
 same-length : tie.Need-same-length
 same-length c = search needs
