@@ -2,6 +2,7 @@
 use crate::front::bytes_of;
 use block::is_parts;
 use block::write_parts;
+use piece::NONE;
 use piece::Run;
 ghost use mathlib.Core.Path.{_≡_};
 ghost use mathlib.Core.List.{_++_};
@@ -13,9 +14,6 @@ ghost use Rattle.piece.specs.Decide.{Decides};
 ghost use Rattle.block.specs.Layout.{blockOf, blockAt};
 ghost use Rattle.book.specs.Entry.{four};
 ghost use Rattle.book.specs.Steps.{Coded, Padded, Ready, Recalls, Sought, Keeps};
-
-// Clear, as a verdict is coded.
-pub(crate) const NONE: u32 = 4294967295;
 
 // What a slot remembers of a question.
 pub(crate) enum Found {

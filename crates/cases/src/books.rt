@@ -5,6 +5,7 @@ use crate::band;
 use crate::more;
 use crate::run;
 use book::Asked;
+use piece::NONE;
 use piece::Run;
 
 // Another piece than Q with the same sum of bytes: its upper edge leans.
@@ -34,12 +35,12 @@ fn remembered(a: Asked, code: u32) -> bool {
 fn shared(s: Score) -> Score {
     let mut pages = [0u8; 2048];
     let first = book::ask(&mut pages, above(), band(0), &Q);
-    let s = more(s, b"Q asked: worked out, clear", worked(first, 0xFFFF_FFFF));
+    let s = more(s, b"Q asked: worked out, clear", worked(first, NONE));
     let again = book::ask(&mut pages, above(), band(0), &Q);
     let s = more(
         s,
         b"Q asked again: remembered, clear",
-        remembered(again, 0xFFFF_FFFF),
+        remembered(again, NONE),
     );
     let other = book::ask(&mut pages, above(), band(0), &LEANING);
     let s = more(
@@ -48,11 +49,7 @@ fn shared(s: Score) -> Score {
         worked(other, 1024),
     );
     let back = book::ask(&mut pages, above(), band(0), &Q);
-    more(
-        s,
-        b"Q asked in turn: worked out, clear",
-        worked(back, 0xFFFF_FFFF),
-    )
+    more(s, b"Q asked in turn: worked out, clear", worked(back, NONE))
 }
 
 fn forgery(s: Score) -> Score {
@@ -74,7 +71,7 @@ fn forgery(s: Score) -> Score {
     more(
         s,
         b"a damaged entry: worked out, clear",
-        worked(mended, 0xFFFF_FFFF),
+        worked(mended, NONE),
     )
 }
 

@@ -3,11 +3,13 @@
 use intake::Taken;
 use libc::STDOUT_FILENO;
 use piece::Band;
+use piece::NONE;
 use piece::Placed;
 use piece::Run;
 use piece::Verdict;
 use refusal::Checked;
 use refusal::Refusal;
+use refusal::row_of;
 
 mod books;
 
@@ -64,10 +66,10 @@ fn band(vx: i32) -> Band {
     }
 }
 
-// A mark, or 0xFFFFFFFF for clear, or 0xFFFFFFFE for a refusal.
+// A mark, or NONE for clear, or one less for a refusal.
 fn told(v: Verdict) -> u32 {
     match v {
-        Verdict::Clear => 0xFFFF_FFFF,
+        Verdict::Clear => NONE,
         Verdict::Mark(m) => m,
         Verdict::Refused(_) => 0xFFFF_FFFE,
     }
@@ -75,21 +77,8 @@ fn told(v: Verdict) -> u32 {
 
 // A refusal as number, a, b in one; no more than 16 bits of each.
 fn coded(r: Refusal) -> u64 {
-    match r {
-        Refusal::Length => three(1, 0, 0),
-        Refusal::Check => three(2, 0, 0),
-        Refusal::Kind(a) => three(3, a, 0),
-        Refusal::Reach(a) => three(4, a, 0),
-        Refusal::Corners => three(5, 0, 0),
-        Refusal::Same(a) => three(6, a, 0),
-        Refusal::Fold(a) => three(7, a, 0),
-        Refusal::Meet(a, b) => three(8, a, b),
-        Refusal::Clockwise => three(9, 0, 0),
-        Refusal::Short => three(10, 0, 0),
-        Refusal::NotNumber(a, b) => three(11, a, b),
-        Refusal::Beyond(a, b) => three(12, a, b),
-        Refusal::OffGrid(a, b) => three(13, a, b),
-    }
+    let row = row_of(r);
+    three(row.0, row.1, row.2)
 }
 
 fn three(n: usize, a: usize, b: usize) -> u64 {
@@ -117,7 +106,7 @@ fn runs(s: Score) -> Score {
     let s = more(
         s,
         b"run (-64,32,16) at (3,0,0) for 21 on Q: clear",
-        told(slow) == 0xFFFF_FFFF,
+        told(slow) == NONE,
     );
     let met = piece::verdict(run(-64, 32, 16, 8, 0, 0, 8), band(-8), &Q);
     let s = more(
@@ -129,7 +118,7 @@ fn runs(s: Score) -> Score {
     let s = more(
         s,
         b"run (48,200,16) at (0,-8,0) for 20 on U: clear",
-        told(short) == 0xFFFF_FFFF,
+        told(short) == NONE,
     );
     let seven = piece::verdict(run(-64, 32, 16, 7, 0, 0, 10), band(0), &Q);
     let s = more(

@@ -20,6 +20,9 @@ mod spot;
 
 pub use motion::Verdict;
 
+// Clear, as a verdict is coded: no mark is as large.
+pub const NONE: u32 = 0xFFFF_FFFF;
+
 // A run in plain numbers.
 pub struct Run {
     pub x: i32,
@@ -101,7 +104,7 @@ pub fn verdict(run: Run, band: Band, corners: &[i32]) -> Verdict
         return Verdict::Refused(x);
     }
     let mark = motion::code(run, band, corners);
-    if mark == motion::NONE {
+    if mark == NONE {
         Verdict::Clear
     } else {
         Verdict::Mark(mark)

@@ -1,6 +1,7 @@
 // When a point that runs meets a footprint that stands.
 // Definitions: the crate `decide`, Touch; specs/Touch.antt says which point, motion and edge plain numbers are.
 use crate::Band;
+use crate::NONE;
 use crate::Run;
 use crate::number::least;
 use crate::number::most;
@@ -28,9 +29,6 @@ ghost use Rattle.piece.specs.Numbers.{runOf, pieceOf};
 ghost use Rattle.piece.specs.Place.{whereOf};
 ghost use Rattle.piece.specs.Moving.{spanOf, Tame};
 ghost use Rattle.piece.specs.Touch.{startOf, speedOf, fromOf, toOf, AcrossSteps, SwingSteps, Ready, Flat, Standing, Level, AlongSteps, GapSteps, contact};
-
-// Clear, as a verdict is coded.
-pub(crate) const NONE: u32 = 4294967295;
 
 // What a verdict is: clear, the mark of the first contact, or the refusal.
 pub enum Verdict {

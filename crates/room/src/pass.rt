@@ -2,6 +2,7 @@
 use crate::Counted;
 use crate::image::head;
 use block::verdict_in;
+use piece::NONE;
 use piece::Run;
 use piece::Verdict;
 use piece::check_run;
@@ -17,9 +18,6 @@ ghost use Rattle.piece.specs.Numbers.{runOf};
 ghost use Rattle.room.specs.Codes.{CodeFound, CodesSay};
 ghost use Rattle.room.specs.Image.{count, headChecks, Has};
 ghost use Rattle.room.specs.Verdicts.{VerdictsSay};
-
-// Clear, as a verdict is coded.
-const NONE: u32 = 4294967295;
 
 // The verdict on one piece, coded.
 pub(crate) enum Coded {

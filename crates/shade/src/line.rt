@@ -2,6 +2,7 @@
 use crate::text::put_field;
 use crate::text::put_number;
 use crate::text::put_word;
+use piece::NONE;
 use refusal::Refusal;
 use refusal::row_of;
 ghost use Prim.Native.Nat.{_+_, _*_, _≤_};
@@ -10,9 +11,6 @@ ghost use Rattle.refusal.specs.Said.{said};
 ghost use Rattle.room.specs.Image.{saidIn};
 ghost use Rattle.shade.specs.Text.{answered, runLine, roomLine, pieceLine, pieceLines, page};
 ghost use Rattle.shade.specs.Put.{Puts};
-
-// Clear, as a verdict is coded.
-const CLEAR: u32 = 0xFFFF_FFFF;
 
 // A refused run.
 pub(crate) fn run_line(out: &mut [u8], x: Refusal) -> usize
@@ -43,7 +41,7 @@ fn put_answer(out: &mut [u8], at: usize, code: u32) -> usize
     ensures { λ r. ⌜ Puts (now (out .entry)) at (answered code) (now (out .exit)) r ⌝ }
     ensures { λ r. ⌜ r ≤ at + 29 ⌝ }
 {
-    if code == CLEAR {
+    if code == NONE {
         put_word(out, at, b" clear")
     } else {
         put_field(out, at, b" blocked ", code as usize)
