@@ -178,6 +178,10 @@ pub fit-export : (xs : List Float) (size : ℕ) → AllFit (exportChecks xs size
 unfolding exportChecks intakeChecks
 fit-export xs size = asks (omega arith) (λ p. asks (omega arith) (λ c. asks (omega arith) (λ p. fit-corners (corners xs) _ (c .most))))
 
+-- a lent list that is too short
+pub fit-short : Fits (refuse 10 0 0)
+fit-short = small 10 0 0 (omega arith) (omega arith) (omega arith)
+
 -- ---- so each of them reads back
 pub fault-told : (cs : List Check) → AllFit cs → (s : Refusal) → Fault cs s → told (refusalCode s) ≡ inr s
 fault-told cs f s h = readable (inr s) (f .fits s h)

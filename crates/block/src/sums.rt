@@ -14,7 +14,7 @@ pub(crate) struct Sums {
 }
 
 // The two sums, each with one remainder at its end. Byte 255 + i stands beside byte i, since modulo 255 both weigh 255 - i:
-// half as many turns, and the largest sums are 130,050 and 33,162,750.
+// half as many turns, and the sums are at most 130,050 and 33,162,750.
 pub(crate) fn sums_of(block: &[u8]) -> Sums
     requires { ⌜ 510 ≤ length (now block) ⌝ }
     ensures { λ r. ⌜ (r .plain ≡ plainSum (now (block .entry))) × (r .weighed ≡ weighedSum (now (block .entry))) ⌝ }

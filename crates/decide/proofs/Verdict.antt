@@ -1,4 +1,4 @@
--- The computed code is the verdict: demand 3. Assumes nothing.
+-- The computed code is the verdict: what clear and a mark promise. Assumes nothing.
 use mathlib.Core.Path.{_≡_, refl, sym, ap, subst, _∙_}
 use mathlib.Core.Logic.{_⊎_, inl, inr, ⊎-elim}
 use mathlib.Core.Bool.{Bool, true, false, cond}
