@@ -93,7 +93,7 @@ fn rows() -> Vec<Row> {
         ("room verdicts, 40 pieces of 4 to 12", gen::blocks::image(&typical_room())),
         ("room verdicts, 126 pieces of 64", gen::blocks::image(&full_room())),
     ] {
-        let runs = bake_runs(16, 1);
+        let runs = bake_runs(16);
         rows.push(row(name, "rooms", move |calls| rooms(calls, &runs, &image)));
     }
     rows.extend(bakes());
@@ -109,7 +109,7 @@ fn rows() -> Vec<Row> {
 
 /// A bake of 10,000 runs over the typical room, by each of the ways there are.
 fn bakes() -> Vec<Row> {
-    let fresh = bake_runs(10_000, 1);
+    let fresh = bake_runs(10_000);
     let (same, by_verdict) = (fresh.clone(), fresh.clone());
     let image = gen::blocks::image(&typical_room());
     vec![

@@ -53,11 +53,11 @@ pub fn full_room() -> Vec<Piece> {
     (0..126).map(|i| piece_of(i, 64)).collect()
 }
 
-/// Runs across the room, each of them so many times in turn.
-pub fn bake_runs(count: usize, times: usize) -> Vec<Run> {
+/// Runs across the room.
+pub fn bake_runs(count: usize) -> Vec<Run> {
     (0..count)
         .map(|i| {
-            let rng = &mut Rng::of_case(11, (i / times) as u64);
+            let rng = &mut Rng::of_case(11, i as u64);
             let position = [rng.range(-3_000, 3_000), rng.range(-3_000, 3_000), rng.range(0, 500)];
             let velocity = [rng.range(-40, 40), rng.range(-40, 40), rng.range(-4, 4)];
             Run { position, velocity, ticks: rng.range(1, 200) as u32 }
@@ -73,7 +73,7 @@ pub fn questions(bake: u64) -> Vec<(Run, Piece)> {
     let room = typical_room();
     let mut taken = [false; SLOTS];
     let mut chosen = Vec::new();
-    for (index, run) in bake_runs(1_000, 1).into_iter().enumerate() {
+    for (index, run) in bake_runs(1_000).into_iter().enumerate() {
         let piece = &room[(index + bake as usize) % room.len()];
         let run = Run { ticks: run.ticks + bake as u32, ..run };
         let home = second::book::home(&second::book::entry(&run, piece, 0), SLOTS);
@@ -129,7 +129,7 @@ mod tests {
     fn rooms_and_bakes_are_not_refused() {
         let mut list = [0; 126];
         let images = [typical_room(), full_room()].map(|room| gen::blocks::image(&room));
-        for run in bake_runs(20, 1) {
+        for run in bake_runs(20) {
             for image in &images {
                 assert!(second::room::room_verdicts(&run, image, &mut list).is_ok());
             }
