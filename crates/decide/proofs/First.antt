@@ -2,13 +2,13 @@
 use mathlib.Core.Path.{_≡_, refl, subst}
 use mathlib.Core.Logic.{_⊎_, inl, inr, ⊎-elim}
 use mathlib.Core.Bool.{Bool, true, false, cond}
-use Prim.Native.Nat.{ℕ, zero, suc, min, _*_, _≤_, _<_}
+use Prim.Native.Nat.{ℕ, zero, suc, min, _≤_, _<_}
 use native.Mathlib.Omega.{arith}
 use lib.Dec.{leb→le}
 use lib.IntN.{pos}
 use lib.Signed.{_≤ℤ_}
-use Rattle.whole.specs.Fraction.{Frac, _≼_, mark, whole, Floor}
-use Rattle.whole.proofs.Fraction.{trans, total, floor-mono}
+use Rattle.whole.specs.Fraction.{Frac, _≼_, whole, Floor}
+use Rattle.whole.proofs.Fraction.{trans, total, floor-mono, floor-most}
 use Rattle.whole.proofs.Order.{lt-le, ℕ-or}
 use Rattle.rules.specs.Ring.{Pt, Ring, from, to}
 use Rattle.decide.specs.Span.{Span, some, first}
@@ -27,7 +27,7 @@ abbrev pub Early : Span → Type 0
 Early s = (t : Frac) → In s t → t ≼ whole (pos 4096)
 
 pub below-none : (c : ℕ) (t : Frac) → Floor (pos c) t → t ≼ whole (pos 4096) → c < NONE
-below-none c t f h = let l = leb→le (c * 1) 1048576 (trans (mark (pos c)) t (whole (pos 4096)) (f .low) h .le) in omega arith
+below-none c t f h = let l = floor-most c 4096 t f h in omega arith
 
 -- ---- of two, the earlier
 le-of : (c d : ℕ) → pos c ≤ℤ pos d → c ≤ d

@@ -10,6 +10,7 @@ use lib.Ieee.{Float, nan, inf, fin, binary32, fits, lt, eq, ne, mul, ofInt}
 use lib.Ieee.Compare.{differs-from-itself, nan-differs}
 use Rattle.whole.specs.Fraction.{whole}
 use Rattle.whole.proofs.Difference.{all, all2, all3, ring}
+use Rattle.whole.proofs.Order.{cancel, cancel-next}
 use Rattle.whole.proofs.Flag.{yes-of}
 use Rattle.whole.proofs.Range.{abs-by}
 use Rattle.whole.proofs.Fraction.{trans, less, apart, le-then-lt}
@@ -86,19 +87,13 @@ scaled-in (fin s m e) f w =
     }
 
 -- ---- its floor is small
-floor-high : (k : ℤ) → (k *ℤ pos 1) ≤ℤ (pos 16384 *ℤ pos 1) → k ≤ℤ pos 16384
-floor-high = all _ λ k k′. simp ring (omega arith)
-
-floor-low : (k : ℤ) → (negsuc 16383 *ℤ pos 1) <ℤ ((k +ℤ pos 1) *ℤ pos 1) → negsuc 16383 ≤ℤ k
-floor-low = all _ λ k k′. simp ring (omega arith)
-
 pub floor-small : (g : Float) (k : ℤ) → Scaled g → Floored g k → natAbs k ≤ 16384
 floor-small g k r f =
     let v = r .worth in
     let h = f v (r .is) in
     abs-by 16384 k
-    (floor-low k (le-then-lt (whole (negsuc 16383)) v (whole (k +ℤ pos 1)) (r .least) (h .high)))
-    (floor-high k (trans (whole k) v (whole (pos 16384)) (h .low) (r .most)))
+    (cancel-next (negsuc 16383) k (pos 1) (whole k .some) (le-then-lt (whole (negsuc 16383)) v (whole (k +ℤ pos 1)) (r .least) (h .high)))
+    (cancel k (pos 16384) (pos 1) (whole k .some) (trans (whole k) v (whole (pos 16384)) (h .low) (r .most)))
 
 -- ---- on the grid, and off it
 times-eq : (k n d : ℤ) → k *ℤ d ≡ (n *ℤ pos 16) *ℤ pos 1 → k *ℤ d ≡ n *ℤ pos 16

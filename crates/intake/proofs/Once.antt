@@ -10,10 +10,9 @@ use lib.Signed.{_≤ℤ_}
 use lib.ListN.{length, getD}
 use lib.Ieee.{Float, nan, inf, fin}
 use Rattle.whole.specs.Front.{fronted}
-use Rattle.whole.specs.Fraction.{Frac, _≺_, _≈_}
+use Rattle.whole.specs.Fraction.{Frac, _≈_}
 use Rattle.whole.proofs.Front.{stays-one}
-use Rattle.whole.proofs.Difference.{all2, ring}
-use Rattle.whole.proofs.Order.{antisym, cancel-eq, lt-le, ℕ-or}
+use Rattle.whole.proofs.Order.{antisym, clash, cancel-lt, cancel-next, cancel-eq, lt-le, ℕ-or}
 use Rattle.whole.proofs.Fraction.{le-then-lt, lt-then-le}
 use Rattle.rules.specs.Reach.{Corners}
 use Rattle.rules.specs.Refusal as rules
@@ -37,27 +36,21 @@ pub one-export : (k : ℤ) (v w : Float) → Export k v → Export k w → v ≡
 one-export k v w h i = one-value v w (minus k) (natAbs k) 16 (lit< tt) (h .binary) (i .binary) (export-has k v h) (export-has k w i)
 
 -- ---- a value lies at one grid value, or between one and the next
-order : (j k : ℤ) → grid j ≺ grid (k +ℤ pos 1) → j ≤ℤ k
-order = all2 _ λ j j′ k k′. simp ring (omega arith)
-
-never-next : (j k : ℤ) → grid k ≺ grid j → grid j ≺ grid (k +ℤ pos 1) → ⊥
-never-next = all2 _ λ j j′ k k′. simp ring (omega arith)
-
 one-grid : (v : Frac) (j k : ℤ) → grid j ≈ v → grid k ≈ v → j ≡ k
 one-grid v j k h i = cancel-eq j k (v .den) (v .some) (h ∙ sym i)
 
 between : (v : Frac) (j : ℤ) (w : Float) → grid j ≈ v → Off v w → ⊥
 between v j w h o =
-    never-next j (o .k)
-    (lt-then-le (grid (o .k)) v (grid j) (o .above) (≈-≼ v (grid j) (≈-sym (grid j) v h)))
-    (le-then-lt (grid j) v (grid (o .k +ℤ pos 1)) (≈-≼ (grid j) v h) (o .next))
+    clash (o .k) j
+    (cancel-lt (o .k) j (pos 16) (grid j .some) (lt-then-le (grid (o .k)) v (grid j) (o .above) (≈-≼ v (grid j) (≈-sym (grid j) v h))))
+    (cancel-next j (o .k) (pos 16) (grid j .some) (le-then-lt (grid j) v (grid (o .k +ℤ pos 1)) (≈-≼ (grid j) v h) (o .next)))
 
 one-off : (v : Frac) (w y : Float) → Off v w → Off v y → w ≡ y
 one-off v w y o p =
     one-export (p .k) w y (subst (λ (k : ℤ). Export k w) (antisym (o .k) (p .k) (within o p) (within p o)) (o .export)) (p .export)
   where
     within : {a b : Float} (q : Off v a) (r : Off v b) → q .k ≤ℤ r .k
-    within q r = order (q .k) (r .k) (le-then-lt (grid (q .k)) v (grid (r .k +ℤ pos 1)) (lt-le _ _ (q .above)) (r .next))
+    within q r = cancel-next (q .k) (r .k) (pos 16) (grid (q .k) .some) (le-then-lt (grid (q .k)) v (grid (r .k +ℤ pos 1)) (lt-le _ _ (q .above)) (r .next))
 
 pub one-worth : (v : Frac) (s t : Taken) → Worth v s → Worth v t → s ≡ t
 one-worth v (Grid j) (Grid k) h i = ap Grid (one-grid v j k (h .1) (i .1))

@@ -3,16 +3,19 @@ use mathlib.Core.Path.{_≡_, _∙_}
 use mathlib.Core.Bool.{true, false}
 use Prim.Native.Nat.{ℕ, _≤_}
 use native.Mathlib.Omega.{arith}
-use lib.Dec.{T, leb→le}
-use lib.IntN.{ℤ, pos, negsuc, negℤ, natAbs, _-ℤ_, _*ℤ_}
+use lib.Dec.{T}
+use lib.IntN.{ℤ, pos, negℤ, natAbs, _-ℤ_, _*ℤ_, one, *ℤ-one}
 use lib.Signed.{_≤ℤ_, _<ℤ_, ltZ, quotZ, nonNeg, <ℤ-≤ℤ-trans}
 use mir.Syntax.{w64}
 use mir.Val.{SFits, toZ, ofZ}
 use mir.Facts.{toZ-ofZ}
-use Rattle.whole.proofs.Difference.{all, all2, ring}
-use Rattle.whole.proofs.Order.{mul-swap-r, turn-lt, nn-mul, mul-mono, cancel, cancel-lt, le-trans, lt-le, nn-factor}
+use Rattle.whole.proofs.Difference.{all, ring}
+use Rattle.whole.proofs.Order.{mul-swap-r, turn-lt, nn-mul, mul-mono, cancel-lt, le-trans, lt-le, nn-factor}
 use Rattle.whole.proofs.Flag.{by-flag, lt-true, le-true}
 use Rattle.whole.proofs.Range.{fits, abs-mul-le, abs-neg, Quot, quot}
+use Rattle.whole.specs.Fraction.{whole}
+use Rattle.whole.proofs.Fraction.{trans, floor-most}
+use Rattle.decide.proofs.Span.{Proper, begin, end, first-mark}
 use Rattle.decide.specs.Span.{Span, raise, lower, none, clip, some, first}
 use Rattle.piece.specs.Moving.{Tame, Small, Bounds, Slope, Crossed, MarkSteps}
 
@@ -117,19 +120,6 @@ module _ (s : Span) (a b : ℤ) where
 pub some-fits : (s : Span) → Small s → SFits w64 (s .lowN *ℤ s .highD) × SFits w64 (s .highN *ℤ s .lowD)
 some-fits s h = (tame-fits (s .lowN) (s .highD) (h .lowN) (h .highD), tame-fits (s .highN) (s .lowD) (h .highN) (h .lowD))
 
--- it begins by 4,096 ticks
-begin-by : (s : Span) → Small s → some s ≡ true → s .lowN ≤ℤ (pos 4096 *ℤ s .lowD)
-begin-by s h e =
-    cancel _ _ (s .highD) (h .high)
-    (le-trans _ _ _ (le-true _ _ e) (rw (mul-swap-r (pos 4096) (s .lowD) (s .highD)) (mul-mono (s .highN) (pos 4096 *ℤ s .highD) (s .lowD) (h .end) (lt-le _ _ (h .low)))))
-
-scale-up : (n d : ℤ) → n ≤ℤ (pos 4096 *ℤ d) → (pos 256 *ℤ n) ≤ℤ (pos 1048576 *ℤ d)
-scale-up = all2 _ λ a a′ b b′. simp ring (omega arith)
-
-below : (B : ℕ) (z : ℤ) → T (nonNeg z) → z ≤ℤ pos B → natAbs z ≤ B
-below B (pos n) h k = leb→le n B (k .le)
-below B (negsuc n) h k = absurd h
-
 module _ (s : Span) (h : Small s) (e : some s ≡ true) where
   from-0 : pos 0 ≤ℤ (pos 256 *ℤ s .lowN)
   from-0 = nn-mul (pos 256) (s .lowN) (record { le = tt }) (h .begin)
@@ -140,10 +130,13 @@ module _ (s : Span) (h : Small s) (e : some s ≡ true) where
   pub mark-sign : T (nonNeg (quotZ (pos 256 *ℤ s .lowN) (s .lowD)))
   mark-sign = parts .sign
 
+  proper : Proper s
+  proper = record { low = h .low; high = h .high; from = h .begin }
+
+  -- it begins by 4,096 ticks
   pub mark-most : first s ≤ 1048576
-  mark-most =
-      below 1048576 (quotZ (pos 256 *ℤ s .lowN) (s .lowD)) mark-sign
-      (cancel (quotZ (pos 256 *ℤ s .lowN) (s .lowD)) (pos 1048576) (s .lowD) (h .low) (le-trans _ _ _ (parts .low) (scale-up (s .lowN) (s .lowD) (begin-by s h e))))
+  unfolding one
+  mark-most = floor-most (first s) 4096 (begin s proper) (first-mark s proper) (trans (begin s proper) (end s proper) (whole (pos 4096)) (le-true _ _ e) (rw (*ℤ-one (s .highN)) (h .end)))
 
   pub mark-steps : MarkSteps (s .lowN) (s .lowD)
   mark-steps = record {

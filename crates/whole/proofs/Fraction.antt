@@ -1,11 +1,12 @@
 -- The order of fractions: total, transitive, the same however a fraction is written; and 256 t rounded down. Assumes nothing.
 use mathlib.Core.Logic.{_⊎_, ⊎-elim}
+use Prim.Native.Nat.{ℕ, _*_, _≤_}
 use native.Mathlib.Omega.{arith}
+use lib.Dec.{leb→le}
 use lib.IntN.{ℤ, pos, _+ℤ_, _*ℤ_, *ℤ-comm}
 use lib.Signed.{_≤ℤ_, _<ℤ_, quotZ}
-use Rattle.whole.specs.Fraction.{Frac, _≼_, _≺_, mark, Floor}
-use Rattle.whole.proofs.Difference.{all2, ring}
-use Rattle.whole.proofs.Order.{mul-swap-r, le-or-lt, le-trans, lt-le, clash, mul-mono, cancel, nn-mul, pos-mul}
+use Rattle.whole.specs.Fraction.{Frac, _≼_, _≺_, whole, mark, Floor}
+use Rattle.whole.proofs.Order.{mul-swap-r, le-or-lt, le-trans, lt-le, clash, mul-mono, cancel, cancel-next, nn-mul, pos-mul}
 use Rattle.whole.proofs.Range.{quot}
 
 -- ---- order
@@ -35,12 +36,13 @@ abbrev pub scaled : (c : ℤ) → pos 0 <ℤ c → Frac → Frac
 scaled c l t = record { num = c *ℤ t .num; den = c *ℤ t .den; some = pos-mul c (t .den) l (t .some) }
 
 -- ---- rounding down
-pub marks : (j k : ℤ) → mark j ≺ mark (k +ℤ pos 1) → j ≤ℤ k
-marks = all2 _ λ a a′ b b′. simp ring (omega arith)
-
 -- an earlier moment has no later mark
 pub floor-mono : (j k : ℤ) (s t : Frac) → Floor j s → Floor k t → s ≼ t → j ≤ℤ k
-floor-mono j k s t f g h = marks j k (le-then-lt (mark j) s (mark (k +ℤ pos 1)) (f .low) (le-then-lt s t (mark (k +ℤ pos 1)) h (g .high)))
+floor-mono j k s t f g h = cancel-next j k (pos 256) (mark j .some) (le-then-lt (mark j) s (mark (k +ℤ pos 1)) (f .low) (le-then-lt s t (mark (k +ℤ pos 1)) h (g .high)))
+
+-- a moment by n has a mark of at most 256 n
+pub floor-most : (c n : ℕ) (t : Frac) → Floor (pos c) t → t ≼ whole (pos n) → c ≤ 256 * n
+floor-most c n t f h = let l = leb→le (c * 1) (n * 256) (trans (mark (pos c)) t (whole (pos n)) (f .low) h .le) in omega arith
 
 -- for a moment at or after 0: the quotient that a division gives
 pub floor-is : (t : Frac) → pos 0 ≤ℤ t .num → Floor (quotZ (pos 256 *ℤ t .num) (t .den)) t

@@ -1,4 +1,4 @@
--- Laws of ℤ that `lib.IntN` lacks, by `all` and `ring` of `Z`. Assumes nothing.
+-- Laws of ℤ that `lib.IntN` lacks, by `all` and `ring` of `Difference`. Assumes nothing.
 use mathlib.Core.Path.{_≡_, sym}
 use mathlib.Core.Logic.{_⊎_, inl, inr, ⊎-elim}
 use Prim.Native.Nat.{ℕ, zero, suc, _+_, _*_, _≤_, _<_}
@@ -179,6 +179,13 @@ pos-neg-mul a b h k = flip a b (pos-mul a (negℤ b) h (turn-lt b k))
 
 pub cancel-lt : (a b c : ℤ) → pos 0 <ℤ c → (a *ℤ c) <ℤ (b *ℤ c) → a <ℤ b
 cancel-lt a b c k h = not-le a b (λ q. clash _ _ h (mul-mono b a c q (lt-le _ _ k)))
+
+-- less than the next is at most
+pub cancel-next : (a b c : ℤ) → pos 0 <ℤ c → (a *ℤ c) <ℤ ((b +ℤ pos 1) *ℤ c) → a ≤ℤ b
+cancel-next a b c k h = below-next a b (cancel-lt a (b +ℤ pos 1) c k h)
+  where
+    below-next : (a b : ℤ) → a <ℤ (b +ℤ pos 1) → a ≤ℤ b
+    below-next = all2 _ λ a a′ b b′. simp ring (omega arith)
 
 pub cancel-eq : (a b c : ℤ) → pos 0 <ℤ c → a *ℤ c ≡ b *ℤ c → a ≡ b
 cancel-eq a b c k h = antisym a b (cancel a b c k (eq-le _ _ h)) (cancel b a c k (eq-le _ _ (sym h)))
