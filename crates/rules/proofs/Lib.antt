@@ -9,5 +9,4 @@ pub mod Share
 pub mod Counted
 pub mod Place
 pub mod Contact
-pub mod Turn
 pub mod Reach

@@ -1,23 +1,19 @@
 -- The way round a ring. Assumes nothing.
-use mathlib.Core.Path.{_≡_}
+use mathlib.Core.Path.{_≡_, refl}
 use mathlib.Core.Logic.{_⊎_, inl, inr, ⊎-elim}
 use Prim.Native.Nat.{ℕ, suc, _≤_, _<_}
 use native.Mathlib.Omega.{arith}
+use borrow.Author.Tests.{eq-eqb, ne-eqb}
 use Rattle.whole.proofs.Order.{ℕ-or}
-use Rattle.whole.proofs.Flag.{eq-self, lt-not-eq, gt-not-eq}
 use Rattle.rules.specs.Ring.{next}
 
 pub next-inner : (n i : ℕ) → suc i < n → next n i ≡ suc i
 unfolding next
-next-inner n i h = rw (lt-not-eq (suc i) n h)
-
-pub next-past : (n i : ℕ) → n < suc i → next n i ≡ suc i
-unfolding next
-next-past n i h = rw (gt-not-eq (suc i) n h)
+next-inner n i h = rw (ne-eqb (suc i) n (λ e. omega arith))
 
 pub next-last : (n : ℕ) → next (suc n) n ≡ 0
 unfolding next
-next-last n = rw (eq-self (suc n))
+next-last n = rw (eq-eqb (suc n) (suc n) refl)
 
 -- one after, or back at 0
 pub next-ways : (n i : ℕ) → i < n → ((suc i < n) × (next n i ≡ suc i)) ⊎ ((suc i ≡ n) × (next n i ≡ 0))

@@ -2,9 +2,7 @@
 use mathlib.Core.Path.{_≡_, refl, sym, subst}
 use mathlib.Core.Logic.{_⊎_, inl, inr}
 use mathlib.Core.Bool.{Bool, true, false, not, cond, _&&_, _||_}
-use Prim.Native.Nat.{ℕ, _<_}
-use native.Mathlib.Omega.{arith}
-use lib.Dec.{T, eqb, eqb→eq, eqb-refl}
+use lib.Dec.{T}
 use lib.IntN.{ℤ}
 use lib.Signed.{_≤ℤ_, _<ℤ_, leZ, ltZ, ltZ-no}
 use Rattle.whole.proofs.Order.{not-le, clash}
@@ -60,16 +58,6 @@ and-yes false t e = absurd (false-true e)
 
 pub and-both : (s t : Bool) → s ≡ true → t ≡ true → (s && t) ≡ true
 and-both s t e f = rw (e, f)
-
--- ---- numbers
-pub eq-self : (n : ℕ) → eqb n n ≡ true
-eq-self n = is-true (eqb n n) (eqb-refl n)
-
-pub lt-not-eq : (k n : ℕ) → k < n → eqb k n ≡ false
-lt-not-eq k n l = is-false (eqb k n) (λ t. let e = eqb→eq k n t in omega arith)
-
-pub gt-not-eq : (k n : ℕ) → n < k → eqb k n ≡ false
-gt-not-eq k n l = is-false (eqb k n) (λ t. let e = eqb→eq k n t in omega arith)
 
 -- ---- whole numbers
 pub lt-true : (a b : ℤ) → ltZ a b ≡ true → a <ℤ b
