@@ -24,25 +24,17 @@ use Rattle.intake.specs.declared.Corner.{Corner}
 use Rattle.intake.specs.Number.{Answer}
 use Rattle.intake.specs.Footprint.{cornerChecks, cornerAt, cornersChecks, intakeChecks, Holds, Later}
 
--- ---- one more number into a list
-module _ (l : List ℤ) (j : ℕ) (v : ℤ) where
-  at-set : j < length l → getD (set l j v) j (pos 0) ≡ v
-  at-set h = getD-set-same l j v (pos 0) h
-
-  off-set : (k : ℕ) → (k ≡ j → ⊥) → getD (set l j v) k (pos 0) ≡ getD l k (pos 0)
-  off-set k n = getD-set-other l j k v (pos 0) n
-
 -- ---- one more corner into a list
 module _ (cs : List Corner) (i : ℕ) (l : List ℤ) (x y : ℤ) where
   pub hold-more : 2 * i + 1 < length l → Holds cs i l → Answer (cornerAt cs i .x) (Grid x) → Answer (cornerAt cs i .y) (Grid y) → Holds cs (i + 1) (set (set l (2 * i) x) (2 * i + 1) y)
   hold-more h f a b =
       record {
         x = below-more (λ k. Answer (cornerAt cs k .x) (Grid (getD later (2 * k) (pos 0)))) i
-            (λ k lt. subst (λ (z : ℤ). Answer (cornerAt cs k .x) (Grid z)) (sym (off-set first (2 * i + 1) y (2 * k) (omega arith) ∙ off-set l (2 * i) x (2 * k) (omega arith))) (f .x k lt))
-            (subst (λ (z : ℤ). Answer (cornerAt cs i .x) (Grid z)) (sym (off-set first (2 * i + 1) y (2 * i) (omega arith) ∙ at-set l (2 * i) x (omega arith))) a);
+            (λ k lt. subst (λ (z : ℤ). Answer (cornerAt cs k .x) (Grid z)) (sym (getD-set-other first (2 * i + 1) (2 * k) y (pos 0) (omega arith) ∙ getD-set-other l (2 * i) (2 * k) x (pos 0) (omega arith))) (f .x k lt))
+            (subst (λ (z : ℤ). Answer (cornerAt cs i .x) (Grid z)) (sym (getD-set-other first (2 * i + 1) (2 * i) y (pos 0) (omega arith) ∙ getD-set-same l (2 * i) x (pos 0) (omega arith))) a);
         y = below-more (λ k. Answer (cornerAt cs k .y) (Grid (getD later (2 * k + 1) (pos 0)))) i
-            (λ k lt. subst (λ (z : ℤ). Answer (cornerAt cs k .y) (Grid z)) (sym (off-set first (2 * i + 1) y (2 * k + 1) (omega arith) ∙ off-set l (2 * i) x (2 * k + 1) (omega arith))) (f .y k lt))
-            (subst (λ (z : ℤ). Answer (cornerAt cs i .y) (Grid z)) (sym (at-set first (2 * i + 1) y (simp length-set h))) b);
+            (λ k lt. subst (λ (z : ℤ). Answer (cornerAt cs k .y) (Grid z)) (sym (getD-set-other first (2 * i + 1) (2 * k + 1) y (pos 0) (omega arith) ∙ getD-set-other l (2 * i) (2 * k + 1) x (pos 0) (omega arith))) (f .y k lt))
+            (subst (λ (z : ℤ). Answer (cornerAt cs i .y) (Grid z)) (sym (getD-set-same first (2 * i + 1) y (pos 0) (simp length-set h))) b);
       }
     where
       first : List ℤ

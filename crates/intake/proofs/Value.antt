@@ -1,19 +1,19 @@
 -- The value of a binary32 number as a fraction: comparison is that of the values. Assumes nothing.
-use mathlib.Core.Path.{_≡_, refl, sym, ap, subst, _∙_}
-use mathlib.Core.Logic.{⊎-elim}
-use mathlib.Core.Bool.{Bool, true, false, not, true≢false}
+use mathlib.Core.Path.{_≡_, refl, sym, ap, _∙_}
+use mathlib.Core.Bool.{Bool, true, false, true≢false}
 use Prim.Native.Nat.{ℕ, suc, _+_, _*_, _≤_}
 use native.Mathlib.Omega.{arith}
-use lib.Dec.{T, eqb, ltb, ltb→lt, nltb→le, eqb→eq}
+use lib.Dec.{T, eqb, eqb→eq}
 use lib.IntN.{ℤ, pos, negsuc, negℤ, _*ℤ_}
 use lib.Signed.{_≤ℤ_, _<ℤ_}
 use lib.Ieee.{Float, nan, inf, fin, below, level, lt, eq, up, down}
 use lib.Ieee.Fits.{and-l, and-r, and-i, eq→eqb}
+use borrow.Author.Tests.{ltb-true, ltb-false}
 use Rattle.whole.specs.Fraction.{Frac, _≼_, _≺_, _≈_}
 use Rattle.whole.proofs.Difference.{_⊖_, pos-⊖, neg-⊖, ring}
 use Rattle.whole.proofs.Order.{antisym, eq-le}
-use Rattle.whole.proofs.Flag.{yes-of, no-of, decided}
-use Rattle.whole.proofs.Fraction.{trans, apart, le-then-lt, lt-then-le}
+use Rattle.whole.proofs.Flag.{yes-of, no-of}
+use Rattle.whole.proofs.Fraction.{trans, le-then-lt, lt-then-le}
 use Rattle.intake.specs.Number.{signed, value, Is}
 
 -- ---- a signed size
@@ -31,19 +31,16 @@ size-within n false a d h k = let l = simp ring at k in omega arith
 
 -- ---- the machine's comparison of two sizes with signs
 below-yes : (s : Bool) (a : ℕ) (t : Bool) (b : ℕ) → below s a t b ≡ true → signed s a <ℤ signed t b
-below-yes false a false b e = let h = ltb→lt a b (yes-of (ltb a b) e) in simp ring (omega arith)
+below-yes false a false b e = let h = ltb-true a b e in simp ring (omega arith)
 below-yes false a true b e = absurd (true≢false (sym e))
-below-yes true a false b e = let h = ltb→lt 0 (a + b) (yes-of (ltb 0 (a + b)) e) in simp (minus-⊖, ring) (omega arith)
-below-yes true a true b e = let h = ltb→lt b a (yes-of (ltb b a) e) in simp (minus-⊖, ring) (omega arith)
-
-nlt : (a b : ℕ) → ltb a b ≡ false → b ≤ a
-nlt a b e = nltb→le a b (subst (λ (t : Bool). T (not t)) (sym e) tt)
+below-yes true a false b e = let h = ltb-true 0 (a + b) e in simp (minus-⊖, ring) (omega arith)
+below-yes true a true b e = let h = ltb-true b a e in simp (minus-⊖, ring) (omega arith)
 
 below-no : (s : Bool) (a : ℕ) (t : Bool) (b : ℕ) → below s a t b ≡ false → signed t b ≤ℤ signed s a
-below-no false a false b e = let h = nlt a b e in simp ring (omega arith)
+below-no false a false b e = let h = ltb-false a b e in simp ring (omega arith)
 below-no false a true b e = simp (minus-⊖, ring) (omega arith)
-below-no true a false b e = let h = nlt 0 (a + b) e in simp (minus-⊖, ring) (omega arith)
-below-no true a true b e = let h = nlt b a e in simp (minus-⊖, ring) (omega arith)
+below-no true a false b e = let h = ltb-false 0 (a + b) e in simp (minus-⊖, ring) (omega arith)
+below-no true a true b e = let h = ltb-false b a e in simp (minus-⊖, ring) (omega arith)
 
 level-yes : (s : Bool) (a : ℕ) (t : Bool) (b : ℕ) → T (level s a t b) → signed s a ≡ signed t b
 level-yes false a false b h = ap pos (eqb→eq a b (and-l (eqb a b) true h))
@@ -134,6 +131,3 @@ module _ (u v : Frac) where
   eq-no (fin s m e) (inf t) p q h i j = absurd q
   eq-no nan y p q h i j = absurd p
   eq-no (inf s) y p q h i j = absurd p
-
-  pub lt-is : (x y : Float) → Is x u → Is y v → u ≺ v → lt x y ≡ true
-  lt-is x y p q h = ⊎-elim (λ e. e) (λ e. absurd (apart u v h (lt-no x y p q e))) (decided (lt x y))

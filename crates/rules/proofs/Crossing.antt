@@ -95,25 +95,29 @@ turned r s t e f y z h = left r e f ∙ ap negℤ h ∙ right s y t z
 pub sign⁺ : (r s t e f y u z v : ℤ) → pos 0 <ℤ s → pos 0 <ℤ t → r *ℤ (f -ℤ e) ≡ s *ℤ (u -ℤ y) -ℤ t *ℤ (v -ℤ z) → tst (leZ y u) (leZ z v) r ≡ xor (leZ y u) (leZ z v) & ltZ f e
 sign⁺ r s t e f y u z v hs ht eq = sign r (negℤ s) (negℤ t) f e y u z v (turn-gt s hs) (turn-gt t ht) (turned r s t e f (u -ℤ y) (v -ℤ z) eq)
 
--- ---- four flags that agree with one
+-- ---- four flags
+pub xor-swap : (a b c d : Bool) → xor (xor a b) (xor c d) ≡ xor (xor a c) (xor b d)
+xor-swap true true true true = refl
+xor-swap true true true false = refl
+xor-swap true true false true = refl
+xor-swap true true false false = refl
+xor-swap true false true true = refl
+xor-swap true false true false = refl
+xor-swap true false false true = refl
+xor-swap true false false false = refl
+xor-swap false true true true = refl
+xor-swap false true true false = refl
+xor-swap false true false true = refl
+xor-swap false true false false = refl
+xor-swap false false true true = refl
+xor-swap false false true false = refl
+xor-swap false false false true = refl
+xor-swap false false false false = refl
+
+-- that agree with one
 square : (A B C D g : Bool) → xor (xor A B & g) (xor C D & g) ≡ xor (xor A C & g) (xor B D & g)
 square A B C D false = refl
-square true true true true true = refl
-square true true true false true = refl
-square true true false true true = refl
-square true true false false true = refl
-square true false true true true = refl
-square true false true false true = refl
-square true false false true true = refl
-square true false false false true = refl
-square false true true true true = refl
-square false true true false true = refl
-square false true false true true = refl
-square false true false false true = refl
-square false false true true true = refl
-square false false true false true = refl
-square false false false true true = refl
-square false false false false true = refl
+square A B C D true = xor-swap A B C D
 
 -- each flag is its range's, times g
 abbrev Cr : Pt → Pt → Pt → Bool → Type 0
@@ -192,24 +196,6 @@ edge a b p q (before h i j k) = rw (false-le (a .x) (p .x) h, false-le (b .x) (p
 edge a b p q (behind h i j k) = rw (true-le (a .x) (p .x) (lt-le _ _ h), true-le (b .x) (p .x) (lt-le _ _ i), true-le (a .x) (q .x) (lt-le _ _ j), true-le (b .x) (q .x) (lt-le _ _ k))
 
 -- ---- round a ring
-pub xor-swap : (a b c d : Bool) → xor (xor a b) (xor c d) ≡ xor (xor a c) (xor b d)
-xor-swap true true true true = refl
-xor-swap true true true false = refl
-xor-swap true true false true = refl
-xor-swap true true false false = refl
-xor-swap true false true true = refl
-xor-swap true false true false = refl
-xor-swap true false false true = refl
-xor-swap true false false false = refl
-xor-swap false true true true = refl
-xor-swap false true true false = refl
-xor-swap false true false true = refl
-xor-swap false true false false = refl
-xor-swap false false true true = refl
-xor-swap false false true false = refl
-xor-swap false false false true = refl
-xor-swap false false false false = refl
-
 pub xor-link : (a b c : Bool) → xor (xor a b) (xor b c) ≡ xor a c
 xor-link true true true = refl
 xor-link true true false = refl

@@ -2,11 +2,11 @@
 use mathlib.Core.Path.{_≡_, sym, ap, _∙_}
 use mathlib.Core.Logic.{_⊎_, inl, inr, ⊎-elim}
 use native.Mathlib.Omega.{arith}
-use lib.IntN.{ℤ, pos, _+ℤ_, _-ℤ_, _*ℤ_}
+use lib.IntN.{ℤ, pos, _+ℤ_, _-ℤ_, _*ℤ_, *ℤ-comm}
 use lib.Signed.{_<ℤ_}
 use Rattle.whole.proofs.Difference.{all3, ring}
 use Rattle.whole.proofs.Order.{cancel-eq, sub-le, lt-le, le-sub}
-use Rattle.whole.proofs.Polynomial.{vars2, vars3, vars4, vars6, poly, by-ring}
+use Rattle.whole.proofs.Polynomial.{vars3, vars4, vars6, poly, by-ring}
 use Rattle.rules.specs.Ring.{Pt, On}
 use Rattle.rules.proofs.Segment.{Apart, Common, mean-none, mean-turn, apart, decide}
 
@@ -79,11 +79,8 @@ back k s m i p a b h e =
     cancel-eq _ _ k h (turn k (m *ℤ p) ((m -ℤ i) *ℤ a +ℤ i *ℤ b) (m *ℤ s) (sym (out k s m p) ∙ e ∙ sym (into k s m i a b)))
   where
     turn : (k x y s : ℤ) → k *ℤ x +ℤ s ≡ k *ℤ y +ℤ s → x *ℤ k ≡ y *ℤ k
-    turn k x y s e = comm k x ∙ drop (k *ℤ x) (k *ℤ y) s e ∙ sym (comm k y)
+    turn k x y s e = *ℤ-comm x k ∙ drop (k *ℤ x) (k *ℤ y) s e ∙ *ℤ-comm k y
       where
-        comm : (k x : ℤ) → x *ℤ k ≡ k *ℤ x
-        comm = vars2 _ λ ρ. simp poly (by-ring _ _ _ tt)
-
         drop : (x y s : ℤ) → x +ℤ s ≡ y +ℤ s → x ≡ y
         drop = all3 _ λ a a′ b b′ c c′. simp ring (omega arith)
 

@@ -7,8 +7,8 @@ use mathlib.Core.List.{List, [], _∷_}
 use Prim.Native.Nat.{ℕ, zero, suc}
 use native.Mathlib.Omega.{arith}
 use lib.Dec.{T, leb, ltb, eqb, eqb→eq}
-use lib.IntN.{ℤ, pos, negsuc, negℤ, _+ℤ_, _*ℤ_, +ℤ-idl, +ℤ-idr, zero-*ℤ}
-use Rattle.whole.proofs.Difference.{all, all2, all3, all4, ring}
+use lib.IntN.{ℤ, pos, negsuc, negℤ, _+ℤ_, _*ℤ_, +ℤ-idl, +ℤ-idr, +ℤ-assoc, zero-*ℤ, *ℤ-zero}
+use Rattle.whole.proofs.Difference.{all, all2, all4, ring}
 use Rattle.whole.proofs.Order.{distrib, distrib-r, mul-assoc, mul-swap, mul-mul, mul-neg1, add-swap}
 
 pub data Exp : Type 0 where
@@ -143,21 +143,15 @@ module _ (ρ : List ℤ) where
       (λ t. refl)
       (ap (λ z. d *ℤ mval n +ℤ z) (ins-val c m p) ∙ add-swap (d *ℤ mval n) (c *ℤ mval m) (pval p)))
 
-  add-assoc : (a b c : ℤ) → a +ℤ (b +ℤ c) ≡ (a +ℤ b) +ℤ c
-  add-assoc = all3 _ λ a a′ b b′ c c′. simp ring (omega arith)
-
   padd-val : (p q : Poly) → pval (padd p q) ≡ pval p +ℤ pval q
   padd-val nil q = sym (+ℤ-idl (pval q))
-  padd-val (term c m p) q = ins-val c m (padd p q) ∙ ap (λ z. c *ℤ mval m +ℤ z) (padd-val p q) ∙ add-assoc (c *ℤ mval m) (pval p) (pval q)
+  padd-val (term c m p) q = ins-val c m (padd p q) ∙ ap (λ z. c *ℤ mval m +ℤ z) (padd-val p q) ∙ sym (+ℤ-assoc (c *ℤ mval m) (pval p) (pval q))
 
   scaled : (c m d n p : ℤ) → (c *ℤ d) *ℤ (m *ℤ n) +ℤ (c *ℤ m) *ℤ p ≡ (c *ℤ m) *ℤ (d *ℤ n +ℤ p)
   scaled c m d n p = ap (λ z. z +ℤ (c *ℤ m) *ℤ p) (mul-mul c d m n) ∙ sym (distrib (c *ℤ m) (d *ℤ n) p)
 
-  times-zero : (a : ℤ) → pos 0 ≡ a *ℤ pos 0
-  times-zero = all _ λ a a′. simp ring (omega arith)
-
   scale-val : (c : ℤ) (m : List ℕ) (p : Poly) → pval (scale c m p) ≡ (c *ℤ mval m) *ℤ pval p
-  scale-val c m nil = times-zero (c *ℤ mval m)
+  scale-val c m nil = sym (*ℤ-zero (c *ℤ mval m))
   scale-val c m (term d n p) =
       ins-val (c *ℤ d) (mmul m n) (scale c m p)
       ∙ ap (λ z. (c *ℤ d) *ℤ z +ℤ pval (scale c m p)) (mmul-val m n)
@@ -214,10 +208,6 @@ unfolding val
 nsuc-val ρ n = refl
 
 pub ruleset poly = (plus-val, times-val, minus-val)
-
-pub vars2 {ℓ} : (P : ℤ → ℤ → Type ℓ) → ((ρ : List ℤ) → P (val ρ (var 0)) (val ρ (var 1))) → (x0 x1 : ℤ) → P x0 x1
-unfolding val
-vars2 P f x0 x1 = f (x0 ∷ x1 ∷ [])
 
 pub vars3 {ℓ} : (P : ℤ → ℤ → ℤ → Type ℓ) → ((ρ : List ℤ) → P (val ρ (var 0)) (val ρ (var 1)) (val ρ (var 2))) → (x0 x1 x2 : ℤ) → P x0 x1 x2
 unfolding val
