@@ -2,8 +2,7 @@
 use mathlib.Core.Path.{_≡_, refl, _∙_}
 use Prim.Native.Nat.{ℕ, zero, suc, _+_, _*_, _/_, _^_, _≤_, _<_}
 use native.Mathlib.Omega.{arith}
-use native.Mathlib.Nat.{mul-le-mul, div-add-mod', mod-lt, div-le-self}
-use native.Mathlib.Nat.{zero-add, add-zero}
+use native.Mathlib.Nat.{mul-le-mul, div-add-mod', mod-lt, div-le-self, zero-add, add-zero}
 use lib.ListN.{length, getD}
 use mathlib.Core.List.{List, [], _∷_}
 use lib.Dec.{T, leb, ltb, leb→le, le→leb, ltb→lt, lt→ltb}
@@ -11,11 +10,11 @@ use mathlib.Core.Bool.{Bool, true, false, _&&_}
 use Rattle.whole.proofs.Flag.{lt-true, lt-false}
 use lib.IntN.{ℤ, pos, negsuc, negℤ, natAbs, _+ℤ_, _-ℤ_, _*ℤ_}
 use lib.Signed.{_≤ℤ_, _<ℤ_, mag, ltZ, quotZ, nonNeg}
-use mir.Syntax.{Width, w64}
+use mir.Syntax.{Width}
 use mir.Val.{SFits, hbits, toZ, ofZ}
 use mir.Facts.{toZ-ofZ, sfits-lit, and-yes}
 use Rattle.whole.proofs.Difference.{all, all4, ring}
-use Rattle.whole.proofs.Polynomial.{Exp, var, num, nsuc, plus, times, minus, val, num-val, nsuc-val, plus-val, times-val, minus-val, vars4, poly}
+use Rattle.whole.proofs.Polynomial.{Exp, var, num, nsuc, plus, times, minus, val, num-val, nsuc-val, plus-val, times-val, minus-val}
 
 -- a number that is small fits
 pub fits : (w : Width) (z : ℤ) → natAbs z < 2 ^ hbits w → SFits w z
@@ -68,10 +67,6 @@ abs-mul-le x y A B h k = rw (abs-mul x y) (mul-le-mul h k)
 pub read : (w : Width) {r z : ℤ} → mag r < 2 ^ hbits w → r ≡ z → toZ w (ofZ w r) ≡ z
 read w h e = toZ-ofZ (record { sfits = h }) ∙ e
 
--- the same where what it ensures speaks of the arguments as the machine reads them back: `search needs` proves the last
-pub got : (w : Width) {r y z : ℤ} → mag r < 2 ^ hbits w → r ≡ y → y ≡ z → toZ w (ofZ w r) ≡ z
-got w h e f = toZ-ofZ (record { sfits = h }) ∙ (e ∙ f)
-
 -- ---- the quotient of two that are not negative
 pub record Quot (n d : ℤ) : Type 0 where
   pub low : (quotZ n d *ℤ d) ≤ℤ n
@@ -101,16 +96,12 @@ module _ {w : Width} {x y : ℤ} (fx : SFits w x) (fy : SFits w y) where
   pub lt-no : ltZ (toZ w (ofZ w x)) (toZ w (ofZ w y)) ≡ false → y ≤ℤ x
   lt-no e = lt-false x y (rw (toZ-ofZ fx, toZ-ofZ fy) at e)
 
--- an element of a slice, read
-pub elem : (w : Width) (l : List ℤ) (i : ℕ) → mag (getD l i (pos 0)) < 2 ^ hbits w → toZ w (ofZ w (getD l i (pos 0))) ≡ getD l i (pos 0)
-elem w l i h = toZ-ofZ (record { sfits = h })
-
 -- any signed value, read back: `omega arith` finds its range in what a need is handed, be it a parameter, a call's result, an element or a struct's field
 pub field : (w : Width) (z : ℤ) → mag z < 2 ^ hbits w → toZ w (ofZ w z) ≡ z
 field w z h = toZ-ofZ (record { sfits = h })
 
 -- ---- the range of an expression from those of its variables, in one step:
---     f = vars3 _ λ ρ h i j. simp (poly, num-val ρ) (in-range ρ (100 ∷ 100 ∷ 7 ∷ []) _ (h, (i, (j, tt))) w64 _ tt)
+--     f = vars3 _ λ ρ h i j. simp (poly, num-val ρ) (in-range ρ (100 ∷ 100 ∷ 7 ∷ []) _ (h, (i, (j, tt))) w64 tt)
 abbrev pub bound : List ℕ → Exp → ℕ
 bound β (var i) = getD β i 0
 bound β (num n) = n
@@ -160,7 +151,3 @@ pub at-most : (ρ : List ℤ) (β : List ℕ) (e : Exp) → Known ρ 0 β → (B
 at-most ρ β e k B t =
     let s = and-yes (closed β e) (leb (bound β e) B) t in
     omega (arith, bounded ρ β k e (s .0), leb→le (bound β e) B (s .1))
-
--- that it serves: the cross product of two edges within reach
-example : (x y u v : ℤ) → natAbs x ≤ 32768 → natAbs y ≤ 32768 → natAbs u ≤ 32768 → natAbs v ≤ 32768 → SFits w64 (x *ℤ v -ℤ y *ℤ u)
-example = vars4 _ λ ρ h i j k. simp poly (in-range ρ (32768 ∷ 32768 ∷ 32768 ∷ 32768 ∷ []) _ (h, (i, (j, (k, tt)))) w64 tt)

@@ -4,10 +4,11 @@ use mathlib.Core.List.{List}
 use Prim.Native.Nat.{ℕ, _+_, _*_, _-_, _/_, _%_, _≤_, _<_}
 use native.Mathlib.Omega.{arith}
 use borrow.Author.Needs.{needs}
-use lib.ListN.{length, set, length-set}
+use lib.IntN.{pos}
+use lib.ListN.{length, getD, set, length-set}
 use lib.Seq.{ext-getD}
 use mir.Syntax.{w32}
-use Rattle.whole.proofs.Range.{elem}
+use Rattle.whole.proofs.Range.{field}
 use Rattle.block.specs.Layout.{byte, word, words}
 use Rattle.block.proofs.Words.{words-length}
 use Rattle.block.proofs.Pairs.{paired}
@@ -33,7 +34,7 @@ pair-requires : tie.Need-pair-requires Inv-loop μ-loop
 pair-requires c κs =
     let v = c .before .before .before .loop in
     let b = c .before .before .before .before .before in
-    (omega arith, rw (elem w32 (b .args .numbers .now) (v .j) (c .pair-arg2 .given)) (b .pre .1 (v .j) (omega arith)))
+    (omega arith, rw (field w32 (getD (b .args .numbers .now) (v .j) (pos 0)) (c .pair-arg2 .given)) (b .pre .1 (v .j) (omega arith)))
 
 add-j : tie.Need-add-j Inv-loop μ-loop
 add-j c = omega arith
@@ -45,7 +46,7 @@ loop-again : tie.Need-loop-again Inv-loop μ-loop
 loop-again c =
     let v = c .before .before .before .before .before .before .loop in
     let a = c .before .before .before .before .before .before .before .before .args in
-    let e = c .before .before .pair .ensures ∙ ap (λ z. set (set (v .bytes) (2 * v .j) (word z % 256)) (2 * v .j + 1) (word z / 256)) (elem w32 (a .numbers .now) (v .j) (c .before .before .before .pair-arg2 .given)) in (
+    let e = c .before .before .pair .ensures ∙ ap (λ z. set (set (v .bytes) (2 * v .j) (word z % 256)) (2 * v .j + 1) (word z / 256)) (field w32 (getD (a .numbers .now) (v .j) (pos 0)) (c .before .before .before .pair-arg2 .given)) in (
       ap length e ∙ simp length-set (v .inv .0),
       omega arith,
       subst (λ (l : List ℕ). (k : ℕ) → k < 2 * (v .j + 1) → byte l k ≡ byte (words (a .numbers .now)) k) (sym e) (paired (a .numbers .now) (v .bytes) (v .j) (omega arith) (v .inv .2)),

@@ -8,7 +8,7 @@ use lib.IntN.{pos, negℤ, natAbs, _-ℤ_}
 use mir.Facts.{toZ-pos}
 use mir.Syntax.{w64}
 use mir.Val.{toZ, ofZ}
-use Rattle.whole.proofs.Range.{got}
+use Rattle.whole.proofs.Range.{read}
 use Rattle.rules.specs.Reach.{Run, Piece}
 use Rattle.decide.specs.Span as decide
 use Rattle.decide.specs.Touch.{bandSpan}
@@ -31,21 +31,21 @@ rise c =
     let b = c .before .before .before in
     let u = b .args .run .vz in
     let v = b .args .band .vz in
-    got w64 (c .gap .ok) (c .gap .ensures) (minus u v _ _ (back32 u (swift u (b .pre .rise))) (back32 v (swift v (b .pre .lift))))
+    read w64 (c .gap .ok) (c .gap .ensures ∙ minus u v _ _ (back32 u (swift u (b .pre .rise))) (back32 v (swift v (b .pre .lift))))
 
 above : (c : tie.After-over) → let a = c .before .before .before .before .before .before .before .args in toZ w64 (ofZ w64 (c .over .result)) ≡ a .run .z -ℤ a .band .bottom
 above c =
     let b = c .before .before .before .before .before .before .before in
     let u = b .args .run .z in
     let v = b .args .band .bottom in
-    got w64 (c .over .ok) (c .over .ensures) (minus u v _ _ (back32 u (reached u (b .pre .start))) (back32 v (reached v (b .pre .bottom))))
+    read w64 (c .over .ok) (c .over .ensures ∙ minus u v _ _ (back32 u (reached u (b .pre .start))) (back32 v (reached v (b .pre .bottom))))
 
 under : (c : tie.After-under) → let a = c .before .before .before .before .before .before .before .before .before .before .before .args in toZ w64 (ofZ w64 (c .under .result)) ≡ a .band .top -ℤ a .run .z
 under c =
     let b = c .before .before .before .before .before .before .before .before .before .before .before in
     let u = b .args .band .top in
     let v = b .args .run .z in
-    got w64 (c .under .ok) (c .under .ensures) (minus u v _ _ (back32 u (reached u (b .pre .top))) (back32 v (reached v (b .pre .start))))
+    read w64 (c .under .ok) (c .under .ensures ∙ minus u v _ _ (back32 u (reached u (b .pre .top))) (back32 v (reached v (b .pre .start))))
 
 -- the run's length
 long : (b : tie.Start) → toZ w64 (b .args .run .ticks) ≡ pos (b .args .run .ticks)

@@ -1,9 +1,9 @@
 -- `motion::begins` places the point. Assumes nothing.
-use mathlib.Core.Path.{_≡_, refl}
+use mathlib.Core.Path.{_≡_}
 use lib.IntN.{_+ℤ_, _*ℤ_}
 use mir.Syntax.{w64}
 use mir.Val.{toZ, ofZ}
-use Rattle.whole.proofs.Range.{got}
+use Rattle.whole.proofs.Range.{read}
 use Rattle.piece.proofs.Touch.{reached, wide, back, along-steps, along-most}
 use Rattle.piece.proofs.motion.begins.Statement.{statement}
 use Rattle.piece.proofs.motion.begins.Tie as tie
@@ -33,9 +33,8 @@ the-x c =
     let s = b .args .s in
     let m = b .args .m in
     let h = b .pre .1 in
-    got w64 (c .along .ok)
+    read w64 (c .along .ok)
     (rw (back (s .«low_d») (wide (s .«low_d») (h .lowD)), back (s .«low_n») (h .lowN), back (m .x) (reached (m .x) (b .pre .0 .start .x)), back (m .u) (wide (m .u) (b .pre .0 .speed .x))) at (c .along .ensures))
-    refl
 
 the-y : (c : tie.After-along2) → let a = c .before .before .before .before .before .before .before .before .before .before .args in toZ w64 (ofZ w64 (c .along2 .result)) ≡ a .s .«low_d» *ℤ a .m .y +ℤ a .s .«low_n» *ℤ a .m .v
 the-y c =
@@ -43,9 +42,8 @@ the-y c =
     let s = b .args .s in
     let m = b .args .m in
     let h = b .pre .1 in
-    got w64 (c .along2 .ok)
+    read w64 (c .along2 .ok)
     (rw (back (s .«low_d») (wide (s .«low_d») (h .lowD)), back (s .«low_n») (h .lowN), back (m .y) (reached (m .y) (b .pre .0 .start .y)), back (m .v) (wide (m .v) (b .pre .0 .speed .y))) at (c .along2 .ensures))
-    refl
 
 place-at-requires : tie.Need-place-at-requires
 place-at-requires c κs =

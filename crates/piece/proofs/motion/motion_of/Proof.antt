@@ -1,8 +1,9 @@
 -- `motion::motion_of` is the point and its motion. Assumes nothing.
+use mathlib.Core.Path.{_∙_}
 use native.Mathlib.Omega.{arith}
 use borrow.Author.Needs.{needs}
 use mir.Syntax.{w32, w64}
-use Rattle.whole.proofs.Range.{got, field}
+use Rattle.whole.proofs.Range.{read, field}
 use Rattle.piece.proofs.Touch.{minus}
 use Rattle.piece.proofs.motion.motion_of.Statement.{statement}
 use Rattle.piece.proofs.motion.motion_of.Tie as tie
@@ -28,10 +29,10 @@ returns c =
     let y = c .before .before .before .before .before .before .wide2 in
     let u = c .before .before .before .gap in
     let v = c .gap2 in (
-      rw (got w64 (x .ok) (x .ensures) (field w32 (r .x) (omega arith)), got w64 (y .ok) (y .ensures) (field w32 (r .y) (omega arith))),
+      rw (read w64 (x .ok) (x .ensures ∙ field w32 (r .x) (omega arith)), read w64 (y .ok) (y .ensures ∙ field w32 (r .y) (omega arith))),
       rw (
-        got w64 (u .ok) (u .ensures) (minus (r .vx) (k .vx) _ _ (field w32 (r .vx) (omega arith)) (field w32 (k .vx) (omega arith))),
-        got w64 (v .ok) (v .ensures) (minus (r .vy) (k .vy) _ _ (field w32 (r .vy) (omega arith)) (field w32 (k .vy) (omega arith))),
+        read w64 (u .ok) (u .ensures ∙ minus (r .vx) (k .vx) _ _ (field w32 (r .vx) (omega arith)) (field w32 (k .vx) (omega arith))),
+        read w64 (v .ok) (v .ensures ∙ minus (r .vy) (k .vy) _ _ (field w32 (r .vy) (omega arith)) (field w32 (k .vy) (omega arith))),
       ),
     )
 

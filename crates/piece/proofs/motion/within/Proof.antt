@@ -6,7 +6,7 @@ use lib.IntN.{negℤ, _-ℤ_}
 use mir.Facts.{toZ-ofZ}
 use mir.Syntax.{w64}
 use mir.Val.{toZ, ofZ}
-use Rattle.whole.proofs.Range.{got}
+use Rattle.whole.proofs.Range.{read}
 use Rattle.decide.specs.Span as decide
 use Rattle.decide.specs.Touch.{least, most, within}
 use Rattle.piece.specs.Moving.{spanOf, Small}
@@ -20,10 +20,10 @@ least-requires c κs = search needs
 
 -- the least and the most, read back
 the-least : (c : tie.After-least) → toZ w64 (ofZ w64 (c .least .result)) ≡ least (c .before .args .a) (c .before .args .b)
-the-least c = got w64 (c .least .ok) (c .least .ensures) (rw (toZ-ofZ (c .before .fits .a), toZ-ofZ (c .before .fits .b)))
+the-least c = read w64 (c .least .ok) (c .least .ensures ∙ rw (toZ-ofZ (c .before .fits .a), toZ-ofZ (c .before .fits .b)))
 
 the-most : (c : tie.After-most) → let b = c .before .before .before in toZ w64 (ofZ w64 (c .most .result)) ≡ most (b .args .a) (b .args .b)
-the-most c = let b = c .before .before .before in got w64 (c .most .ok) (c .most .ensures) (rw (toZ-ofZ (b .fits .a), toZ-ofZ (b .fits .b)))
+the-most c = let b = c .before .before .before in read w64 (c .most .ok) (c .most .ensures ∙ rw (toZ-ofZ (b .fits .a), toZ-ofZ (b .fits .b)))
 
 sub-clip : tie.Need-sub-clip
 sub-clip c = rw (toZ-ofZ (c .before .fits .p), the-least c) (low-fits _ _ _ _ _ (c .before .pre))
