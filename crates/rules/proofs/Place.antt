@@ -1,7 +1,7 @@
 -- A place is exactly one of three: on, or by the parity of the crossing flags; scaling and shifting all do not change it. Assumes nothing.
 use mathlib.Core.Path.{_≡_, refl, sym, ap, _∙_}
 use mathlib.Core.Logic.{_⊎_, inl, inr, ⊎-elim}
-use mathlib.Core.Bool.{Bool, true, false}
+use mathlib.Core.Bool.{Bool, true, false, cond}
 use Prim.Native.Nat.{ℕ, zero, suc, _%_, _≤_, _<_}
 use native.Mathlib.Omega.{arith}
 use lib.IntN.{ℤ, pos, _+ℤ_, _*ℤ_, zero-*ℤ}
@@ -38,16 +38,21 @@ count-parity r p (suc n) k (pass f h) =
     ⊎-elim (λ e. absurd (f (yes-counted p (from r n) (to r n) e))) (λ e. count-parity r p n k h ∙ ap bit (sym (ap (λ t. xor (parity (flag r p) n) t) e ∙ xor-unit (parity (flag r p) n))))
     (decided (flag r p n))
 
--- there is a count
-pub counting : (r : Ring) (p : Pt) (n : ℕ) → (k : ℕ) × Count r p n k
-counting r p zero = (zero, start)
-counting r p (suc n) =
-    ⊎-elim (λ e. (suc (counting r p n .0), more (yes-counted p (from r n) (to r n) e) (counting r p n .1))) (λ e. (counting r p n .0, pass (not-counted r p n e) (counting r p n .1)))
+-- how many of the first n edges are counted
+unfoldable pub tally : Ring → Pt → ℕ → ℕ
+tally r p zero = 0
+tally r p (suc n) = cond (flag r p n) (suc (tally r p n)) (tally r p n)
+
+pub tally-counts : (r : Ring) (p : Pt) (n : ℕ) → Count r p n (tally r p n)
+unfolding tally
+tally-counts r p zero = start
+tally-counts r p (suc n) =
+    ⊎-elim (λ e. rw e (more (yes-counted p (from r n) (to r n) e) (tally-counts r p n))) (λ e. rw e (pass (not-counted r p n e) (tally-counts r p n)))
     (decided (flag r p n))
 
 -- off the ring, the parity of the flags says the place
 pub parity-place : (r : Ring) (p : Pt) → (OnRing r p → ⊥) → Parity r p (bit (parity (flag r p) (r .size)))
-parity-place r p f = let c = counting r p (r .size) in record { off = f; count = c .0; counts = c .1; parity = count-parity r p (r .size) (c .0) (c .1) }
+parity-place r p f = let c = tally-counts r p (r .size) in record { off = f; count = tally r p (r .size); counts = c; parity = count-parity r p (r .size) _ c }
 
 pub place-parity : (r : Ring) (p : Pt) (rest : ℕ) → Parity r p rest → rest ≡ bit (parity (flag r p) (r .size))
 place-parity r p rest h = sym (h .parity) ∙ count-parity r p (r .size) (h .count) (h .counts)

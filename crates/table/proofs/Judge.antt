@@ -1,5 +1,5 @@
 -- What is good and where a point lies, computed: the answers that the public calls must give. Assumes nothing.
-use mathlib.Core.Path.{_≡_, refl, sym, _∙_}
+use mathlib.Core.Path.{_≡_, refl}
 use mathlib.Core.Bool.{Bool, true, false, not, cond, _&&_, _||_}
 use mathlib.Core.Logic.{inl, inr, ⊎-elim}
 use mathlib.Core.List.{List}
@@ -11,7 +11,7 @@ use lib.ListN.{length, getD}
 use lib.Signed.{leZ, ltZ}
 use borrow.Author.Tests.{eqb-true, eq-eqb, leb-true, le-leb, ltb-true, lt-ltb, le-ltb}
 use Rattle.whole.proofs.Order.{ℕ-or}
-use Rattle.whole.proofs.Flag.{decided, false-true, or-yes, or-left, or-right, and-yes, and-both, le-true, lt-true, lt-false, true-le}
+use Rattle.whole.proofs.Flag.{decided, or-yes, or-left, or-right, and-yes, and-both, le-true, lt-true, lt-false, true-le}
 use Rattle.rules.specs.Reach.{Between, Reach, Speed, Run, Piece}
 use Rattle.rules.specs.Ring.{Pt, Ring, ring, next, from, to, Neighbours, Share}
 use Rattle.rules.specs.Refusal.{Check, Passes}
@@ -19,10 +19,8 @@ use Rattle.rules.specs.Verdict as rules
 use Rattle.rules.specs.Verdict.{Answer, clear, blocked, verdictChecks, answer}
 use Rattle.rules.proofs.Checks.{passes-append, fault-left, fault-right}
 use Rattle.rules.specs.Good.{Sized, Same, Meet, FirstMeet, area, runNumber, bandNumber, runChecks, sizedCheck, bandCheck, shapeChecks, footprintChecks, pieceChecks}
-use Rattle.rules.specs.Place.{Where, on, inside, outside, Count, start, more, pass, Place, pointNumber, placeChecks}
+use Rattle.rules.specs.Place.{Where, on, inside, outside, Place, pointNumber, placeChecks}
 use Rattle.rules.proofs.Reach.{between-stable, run-known}
-use Rattle.rules.proofs.Crossing.{flag}
-use Rattle.rules.proofs.Counted.{counted-yes, yes-counted}
 use Rattle.refusal.specs.Said.{Finds}
 use Rattle.refusal.specs.declared.Checked.{Checked}
 use Rattle.refusal.specs.declared.Checked.the-variants.{Good, Refused}
@@ -273,18 +271,6 @@ place-lies p l = go (pick (pointFault p) 2 (Refused (refusal.Reach (2 + 2 * poin
     go Good on f h = (f, h)
     go Good inside f h = (f, h)
     go Good outside f h = (f, h)
-
--- ---- how many edges are counted
-unfoldable pub tally : Ring → Pt → ℕ → ℕ
-tally r p zero = 0
-tally r p (suc n) = cond (flag r p n) (suc (tally r p n)) (tally r p n)
-
-pub tally-counts : (r : Ring) (p : Pt) (n : ℕ) → Count r p n (tally r p n)
-unfolding tally
-tally-counts r p zero = start
-tally-counts r p (suc n) =
-    ⊎-elim (λ e. rw e (more (yes-counted p (from r n) (to r n) e) (tally-counts r p n))) (λ e. rw e (pass (λ c. false-true (sym e ∙ counted-yes p (from r n) (to r n) (c .0) (c .1))) (tally-counts r p n)))
-    (decided (flag r p n))
 
 -- ---- a run, and the verdict
 abbrev pub runFlag : Run → ℕ → Bool

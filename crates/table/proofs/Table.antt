@@ -7,6 +7,7 @@ use Rattle.rules.specs.Ring.{Pt, ring, next}
 use Rattle.rules.specs.Good.{pieceChecks}
 use Rattle.rules.specs.Place.{Count}
 use Rattle.rules.proofs.Crossing.{parity}
+use Rattle.rules.proofs.Place.{tally, tally-counts}
 use Rattle.refusal.specs.Said.{Finds}
 use Rattle.refusal.specs.declared.Checked.{Checked}
 use Rattle.refusal.specs.declared.Checked.the-variants.{Good, Refused}
@@ -20,7 +21,7 @@ use Rattle.piece.specs.declared.motion.Verdict.the-variants.{Clear, Mark}
 use Rattle.piece.specs.Shape.{back}
 use Rattle.piece.specs.Place.{pt, Lies}
 use Rattle.piece.specs.Tells.{Tells}
-use Rattle.table.proofs.Judge.{seekFrom, shapeOf, footprintOf, judge, judge-right, placeOf, place-lies, tally, tally-counts, runOf, verdictOf, verdict-tells}
+use Rattle.table.proofs.Judge.{seekFrom, shapeOf, footprintOf, judge, judge-right, placeOf, place-lies, runOf, verdictOf, verdict-tells}
 
 -- a verdict told, a place asked, edges counted, or a piece checked, with the answer
 pub data Row : Type 0 where
