@@ -1,14 +1,14 @@
 -- What lies within reach fits a machine's width. Assumes nothing.
-use mathlib.Core.List.{_∷_, []}
-use Prim.Native.Nat.{_≤_}
+use mathlib.Core.List.{List}
+use Prim.Native.Nat.{ℕ, _+_, _*_, _≤_}
 use native.Mathlib.Omega.{arith}
 use lib.IntN.{ℤ, natAbs, _-ℤ_, _*ℤ_}
 use mir.Syntax.{w64}
 use mir.Val.{SFits}
-use Rattle.whole.proofs.Polynomial.{vars4, vars6, poly}
-use Rattle.whole.proofs.Range.{fits, abs-by, abs-mul-le, in-range}
+use Rattle.whole.proofs.Range.{fits, abs-by, abs-sub, abs-mul-le}
 use Rattle.rules.specs.Reach.{Reach}
-use Rattle.rules.specs.Side.{side}
+use Rattle.rules.specs.Ring.{Pt, ring}
+use Rattle.piece.specs.Shape.{Corner}
 use Rattle.piece.specs.Steps.{SideSteps, CrossSteps}
 
 pub reach-abs : (z : ℤ) → Reach z → natAbs z ≤ 16384
@@ -27,56 +27,47 @@ scaled-wide d z h k = omega (arith, abs-mul-le d z 510 16384 h (reach-abs z k))
 pub scaled-fits : (d z : ℤ) → natAbs d ≤ 510 → Reach z → SFits w64 (d *ℤ z)
 scaled-fits d z h k = fits w64 (d *ℤ z) (omega (arith, scaled-wide d z h k))
 
--- of six numbers, an expression
-abbrev Six : (ℤ → ℤ → ℤ → ℤ → ℤ → ℤ → Type 0) → Type 0
-Six P = (ax ay bx by px py : ℤ) → Wide ax → Wide ay → Wide bx → Wide by → Wide px → Wide py → P ax ay bx by px py
+-- x v − y u
+pub cross-most : (A B : ℕ) (x y u v : ℤ) → natAbs x ≤ A → natAbs y ≤ A → natAbs u ≤ B → natAbs v ≤ B → natAbs (x *ℤ v -ℤ y *ℤ u) ≤ A * B + A * B
+cross-most A B x y u v h i j k = omega (arith, abs-sub (x *ℤ v) (y *ℤ u), abs-mul-le x v A B h k, abs-mul-le y u A B i j)
 
-run : Six (λ ax ay bx by px py. SFits w64 (bx -ℤ ax))
-run = vars6 _ λ ρ h i j k l m. simp poly (in-range ρ (25067520 ∷ 25067520 ∷ 25067520 ∷ 25067520 ∷ 25067520 ∷ 25067520 ∷ []) _ (h, (i, (j, (k, (l, (m, tt)))))) w64 tt)
+-- a difference of two that far
+abbrev pub Broad : ℤ → Type 0
+Broad z = natAbs z ≤ 50135040
 
-up : Six (λ ax ay bx by px py. SFits w64 (py -ℤ ay))
-up = vars6 _ λ ρ h i j k l m. simp poly (in-range ρ (25067520 ∷ 25067520 ∷ 25067520 ∷ 25067520 ∷ 25067520 ∷ 25067520 ∷ []) _ (h, (i, (j, (k, (l, (m, tt)))))) w64 tt)
+broad : (z : ℤ) → Broad z → SFits w64 z
+broad z h = fits w64 z (omega arith)
 
-rise : Six (λ ax ay bx by px py. SFits w64 (by -ℤ ay))
-rise = vars6 _ λ ρ h i j k l m. simp poly (in-range ρ (25067520 ∷ 25067520 ∷ 25067520 ∷ 25067520 ∷ 25067520 ∷ 25067520 ∷ []) _ (h, (i, (j, (k, (l, (m, tt)))))) w64 tt)
+product : (x y : ℤ) → Broad x → Broad y → SFits w64 (x *ℤ y)
+product x y h k = fits w64 (x *ℤ y) (omega (arith, abs-mul-le x y 50135040 50135040 h k))
 
-along : Six (λ ax ay bx by px py. SFits w64 (px -ℤ ax))
-along = vars6 _ λ ρ h i j k l m. simp poly (in-range ρ (25067520 ∷ 25067520 ∷ 25067520 ∷ 25067520 ∷ 25067520 ∷ 25067520 ∷ []) _ (h, (i, (j, (k, (l, (m, tt)))))) w64 tt)
-
-first : Six (λ ax ay bx by px py. SFits w64 ((bx -ℤ ax) *ℤ (py -ℤ ay)))
-first = vars6 _ λ ρ h i j k l m. simp poly (in-range ρ (25067520 ∷ 25067520 ∷ 25067520 ∷ 25067520 ∷ 25067520 ∷ 25067520 ∷ []) _ (h, (i, (j, (k, (l, (m, tt)))))) w64 tt)
-
-second : Six (λ ax ay bx by px py. SFits w64 ((by -ℤ ay) *ℤ (px -ℤ ax)))
-second = vars6 _ λ ρ h i j k l m. simp poly (in-range ρ (25067520 ∷ 25067520 ∷ 25067520 ∷ 25067520 ∷ 25067520 ∷ 25067520 ∷ []) _ (h, (i, (j, (k, (l, (m, tt)))))) w64 tt)
-
-all : Six (λ ax ay bx by px py. SFits w64 (side ax ay bx by px py))
-all = vars6 _ λ ρ h i j k l m. simp poly (in-range ρ (25067520 ∷ 25067520 ∷ 25067520 ∷ 25067520 ∷ 25067520 ∷ 25067520 ∷ []) _ (h, (i, (j, (k, (l, (m, tt)))))) w64 tt)
-
-pub side-steps : Six SideSteps
-side-steps ax ay bx by px py h i j k l m = record {
-  run = run ax ay bx by px py h i j k l m;
-  up = up ax ay bx by px py h i j k l m;
-  rise = rise ax ay bx by px py h i j k l m;
-  along = along ax ay bx by px py h i j k l m;
-  first = first ax ay bx by px py h i j k l m;
-  second = second ax ay bx by px py h i j k l m;
-  all = all ax ay bx by px py h i j k l m;
+pub cross-steps : (x y u v : ℤ) → Broad x → Broad y → Broad u → Broad v → CrossSteps x y u v
+cross-steps x y u v h i j k = record {
+  x-fits = broad x h;
+  y-fits = broad y i;
+  u-fits = broad u j;
+  v-fits = broad v k;
+  first = product x v h k;
+  second = product y u i j;
+  all = fits w64 _ (omega (arith, cross-most 50135040 50135040 x y u v h i j k));
 }
 
-abbrev Small : ℤ → Type 0
-Small z = natAbs z ≤ 16384
+gap-broad : (a b : ℤ) → Wide a → Wide b → Broad (a -ℤ b)
+gap-broad a b h k = omega (arith, abs-sub a b)
 
-abbrev Four : (ℤ → ℤ → ℤ → ℤ → Type 0) → Type 0
-Four P = (x y u v : ℤ) → Small x → Small y → Small u → Small v → P x y u v
+pub record Far (p : Pt) : Type 0 where
+  pub x : Wide (p .x)
+  pub y : Wide (p .y)
 
-left : Four (λ x y u v. SFits w64 (x *ℤ v))
-left = vars4 _ λ ρ h i j k. simp poly (in-range ρ (16384 ∷ 16384 ∷ 16384 ∷ 16384 ∷ []) _ (h, (i, (j, (k, tt)))) w64 tt)
+pub side-steps : (a b p : Pt) → Far a → Far b → Far p → SideSteps (a .x) (a .y) (b .x) (b .y) (p .x) (p .y)
+side-steps a b p h i j = cross-steps _ _ _ _ (gap-broad (b .x) (a .x) (i .x) (h .x)) (gap-broad (b .y) (a .y) (i .y) (h .y)) (gap-broad (p .x) (a .x) (j .x) (h .x)) (gap-broad (p .y) (a .y) (j .y) (h .y))
 
-right : Four (λ x y u v. SFits w64 (y *ℤ u))
-right = vars4 _ λ ρ h i j k. simp poly (in-range ρ (16384 ∷ 16384 ∷ 16384 ∷ 16384 ∷ []) _ (h, (i, (j, (k, tt)))) w64 tt)
+-- of corners within reach
+corner-far : {l : List ℤ} {i : ℕ} → Corner l i → Far (ring l .at i)
+corner-far c = record { x = reach-wide _ (c .x); y = reach-wide _ (c .y) }
 
-whole : Four (λ x y u v. SFits w64 (x *ℤ v -ℤ y *ℤ u))
-whole = vars4 _ λ ρ h i j k. simp poly (in-range ρ (16384 ∷ 16384 ∷ 16384 ∷ 16384 ∷ []) _ (h, (i, (j, (k, tt)))) w64 tt)
+pub turn-steps : {l : List ℤ} {i j k : ℕ} → Corner l i → Corner l j → Corner l k → SideSteps (ring l .at i .x) (ring l .at i .y) (ring l .at j .x) (ring l .at j .y) (ring l .at k .x) (ring l .at k .y)
+turn-steps a b c = side-steps _ _ _ (corner-far a) (corner-far b) (corner-far c)
 
-pub cross-steps : Four CrossSteps
-cross-steps x y u v h i j k = record { first = left x y u v h i j k; second = right x y u v h i j k; all = whole x y u v h i j k }
+pub wedge-steps : {l : List ℤ} {i j : ℕ} → Corner l i → Corner l j → CrossSteps (ring l .at i .x) (ring l .at i .y) (ring l .at j .x) (ring l .at j .y)
+wedge-steps a b = cross-steps _ _ _ _ (omega (arith, reach-abs _ (a .x))) (omega (arith, reach-abs _ (a .y))) (omega (arith, reach-abs _ (b .x))) (omega (arith, reach-abs _ (b .y)))

@@ -21,10 +21,9 @@ use Rattle.decide.specs.Span.{Span, ticks, some, first}
 use Rattle.rules.specs.Verdict.{NONE}
 use Rattle.decide.specs.Touch.{least, most, swing, across, sameSide, onLine, within, onEdge, touch, touches, bandSpan, startPoint, over, pointOf, motion, place, fromPlace, meets}
 use Rattle.piece.specs.Moving.{Tame, Small, Bounds, Slope}
-use Rattle.piece.specs.Touch.{Close, Slow, Ready, Flat, Standing, Level, GapSteps, contact, AlongSteps, AcrossSteps, SwingSteps}
-use Rattle.piece.specs.Steps.{SideSteps}
-use Rattle.piece.proofs.Steps.{reach-abs, Wide}
-use Rattle.piece.proofs.Steps as steps
+use Rattle.piece.specs.Touch.{Close, Slow, Ready, Flat, Standing, Level, GapSteps, contact, AlongSteps}
+use Rattle.piece.specs.Steps.{CrossSteps, SideSteps}
+use Rattle.piece.proofs.Steps.{reach-abs, cross-most, cross-steps}
 use Rattle.piece.proofs.Moving.{tame-clip, wider, small-clip}
 
 -- numbers within reach, and their differences
@@ -44,24 +43,11 @@ back z h = toZ-ofZ (fit z (omega arith))
 fit-mul : (x y : ℤ) → natAbs x ≤ 32768 → natAbs y ≤ 32768 → SFits w64 (x *ℤ y)
 fit-mul x y h k = fit (x *ℤ y) (omega (arith, abs-mul-le x y 32768 32768 h k))
 
--- x v − y u
-cross-most : (x y u v : ℤ) (B : ℕ) → natAbs x ≤ 32768 → natAbs y ≤ 32768 → natAbs u ≤ B → natAbs v ≤ B → natAbs (x *ℤ v -ℤ y *ℤ u) ≤ 65536 * B
-cross-most x y u v B h i j k = omega (arith, abs-sub (x *ℤ v) (y *ℤ u), abs-mul-le x v 32768 B h k, abs-mul-le y u 32768 B i j)
-
 pub wide : (z : ℤ) → natAbs z ≤ 510 → natAbs z ≤ 32768
 wide z h = omega arith
 
-pub across-steps : (p w : Pt) (x y : ℤ) → Close p → Slow w → natAbs x ≤ 16384 → natAbs y ≤ 16384 → AcrossSteps p w x y
-across-steps p w x y h k i j =
-    let u = diff x (p .x) i (h .x) in
-    let v = diff y (p .y) j (h .y) in
-    record {
-      up = fit _ (omega (arith, v));
-      along = fit _ (omega (arith, u));
-      first = fit-mul (w .x) (y -ℤ p .y) (wide (w .x) (k .x)) v;
-      second = fit-mul (w .y) (x -ℤ p .x) (wide (w .y) (k .y)) u;
-      all = fit _ (omega (arith, cross-most (w .x) (w .y) (x -ℤ p .x) (y -ℤ p .y) 32768 (wide (w .x) (k .x)) (wide (w .y) (k .y)) u v));
-    }
+pub across-steps : (p w : Pt) (x y : ℤ) → Close p → Slow w → natAbs x ≤ 16384 → natAbs y ≤ 16384 → CrossSteps (w .x) (w .y) (x -ℤ p .x) (y -ℤ p .y)
+across-steps p w x y h k i j = cross-steps _ _ _ _ (omega (arith, k .x)) (omega (arith, k .y)) (omega (arith, diff x (p .x) i (h .x))) (omega (arith, diff y (p .y) j (h .y)))
 
 module _ (p w : Pt) (s : Span) (a b : Pt) (h : Ready p w s a b) where
   run : natAbs (b .x -ℤ a .x) ≤ 32768
@@ -76,27 +62,17 @@ module _ (p w : Pt) (s : Span) (a b : Pt) (h : Ready p w s a b) where
   up : natAbs (p .y -ℤ a .y) ≤ 32768
   up = diff (p .y) (a .y) (h .start .y) (h .from .y)
 
-  side-most : natAbs (o a b p) ≤ 65536 * 32768
-  side-most = cross-most (b .x -ℤ a .x) (b .y -ℤ a .y) (p .x -ℤ a .x) (p .y -ℤ a .y) 32768 run rise along up
+  side-most : natAbs (o a b p) ≤ 2147483648
+  side-most = omega (arith, cross-most 32768 32768 (b .x -ℤ a .x) (b .y -ℤ a .y) (p .x -ℤ a .x) (p .y -ℤ a .y) run rise along up)
 
-  swing-most : natAbs (swing a b w) ≤ 65536 * 510
-  swing-most = cross-most (b .x -ℤ a .x) (b .y -ℤ a .y) (w .x) (w .y) 510 run rise (h .speed .x) (h .speed .y)
+  swing-most : natAbs (swing a b w) ≤ 33423360
+  swing-most = omega (arith, cross-most 32768 510 (b .x -ℤ a .x) (b .y -ℤ a .y) (w .x) (w .y) run rise (h .speed .x) (h .speed .y))
 
-  far : (z : ℤ) → natAbs z ≤ 16384 → Wide z
-  far z k = omega arith
+  pub line-steps : SideSteps (a .x) (a .y) (b .x) (b .y) (p .x) (p .y)
+  line-steps = cross-steps _ _ _ _ (omega (arith, run)) (omega (arith, rise)) (omega (arith, along)) (omega (arith, up))
 
-  pub side-steps : SideSteps (a .x) (a .y) (b .x) (b .y) (p .x) (p .y)
-  side-steps =
-      steps.side-steps _ _ _ _ _ _ (far (a .x) (h .from .x)) (far (a .y) (h .from .y)) (far (b .x) (h .to .x)) (far (b .y) (h .to .y)) (far (p .x) (h .start .x)) (far (p .y) (h .start .y))
-
-  pub swing-steps : SwingSteps a b w
-  swing-steps = record {
-    run = fit _ (omega (arith, run));
-    rise = fit _ (omega (arith, rise));
-    first = fit-mul (b .x -ℤ a .x) (w .y) run (wide (w .y) (h .speed .y));
-    second = fit-mul (b .y -ℤ a .y) (w .x) rise (wide (w .x) (h .speed .x));
-    all = fit _ (omega (arith, swing-most));
-  }
+  pub swing-steps : CrossSteps (b .x -ℤ a .x) (b .y -ℤ a .y) (w .x) (w .y)
+  swing-steps = cross-steps _ _ _ _ (omega (arith, run)) (omega (arith, rise)) (omega (arith, h .speed .x)) (omega (arith, h .speed .y))
 
   -- the line's inequality, and the other way round
   pub line : Slope (o a b p) (swing a b w)

@@ -9,7 +9,6 @@ use Rattle.rules.specs.Reach.{Run, Piece}
 use Rattle.rules.specs.Ring.{Pt, ring}
 use Rattle.rules.specs.Place.{Where, on, inside, outside}
 use Rattle.decide.specs.Span.{Span}
-use Rattle.decide.specs.Touch.{swing, across}
 use Rattle.piece.specs.declared.motion.Motion.{Motion}
 use Rattle.piece.specs.declared.motion.Edge.{Edge}
 use Rattle.piece.specs.Shape.{Holds, Corner}
@@ -52,21 +51,6 @@ pub record Flat (p w : ℤ) (s : Span) (a b : ℤ) : Type 0 where
   pub span : Small s
   pub from : natAbs a ≤ 16384
   pub to : natAbs b ≤ 16384
-
--- ---- each value on the way fits
-pub record AcrossSteps (p w : Pt) (x y : ℤ) : Type 0 where
-  pub up : SFits w64 (y -ℤ p .y)
-  pub along : SFits w64 (x -ℤ p .x)
-  pub first : SFits w64 (w .x *ℤ (y -ℤ p .y))
-  pub second : SFits w64 (w .y *ℤ (x -ℤ p .x))
-  pub all : SFits w64 (across p w (record { x = x; y = y }))
-
-pub record SwingSteps (a b w : Pt) : Type 0 where
-  pub run : SFits w64 (b .x -ℤ a .x)
-  pub rise : SFits w64 (b .y -ℤ a .y)
-  pub first : SFits w64 ((b .x -ℤ a .x) *ℤ w .y)
-  pub second : SFits w64 ((b .y -ℤ a .y) *ℤ w .x)
-  pub all : SFits w64 (swing a b w)
 
 -- what a footprint that stands and a motion must be
 pub record Standing (l : List ℤ) (p w : Pt) (s : Span) : Type 0 where

@@ -3,6 +3,7 @@
 use crate::Band;
 use crate::NONE;
 use crate::Run;
+use crate::number::cross;
 use crate::number::least;
 use crate::number::most;
 use crate::number::same_side;
@@ -28,7 +29,8 @@ ghost use Rattle.decide.specs.Touch.{swing, across, onLine, within, onEdge, tou
 ghost use Rattle.piece.specs.Numbers.{runOf, pieceOf};
 ghost use Rattle.piece.specs.Place.{whereOf};
 ghost use Rattle.piece.specs.Moving.{spanOf, Tame};
-ghost use Rattle.piece.specs.Touch.{startOf, speedOf, fromOf, toOf, AcrossSteps, SwingSteps, Ready, Flat, Standing, Level, AlongSteps, GapSteps, contact};
+ghost use Rattle.piece.specs.Steps.{CrossSteps};
+ghost use Rattle.piece.specs.Touch.{startOf, speedOf, fromOf, toOf, Ready, Flat, Standing, Level, AlongSteps, GapSteps, contact};
 
 // What a verdict is: clear, the mark of the first contact, or the refusal.
 pub enum Verdict {
@@ -55,18 +57,18 @@ pub(crate) struct Edge {
 
 // The side of a corner against the line of motion.
 fn across(m: Motion, x: i64, y: i64) -> i64
-    requires { ⌜ AcrossSteps (startOf m) (speedOf m) x y ⌝ }
+    requires { ⌜ CrossSteps (m .u) (m .v) (x -ℤ m .x) (y -ℤ m .y) ⌝ }
     ensures { λ r. ⌜ r ≡ across (startOf m) (speedOf m) (record { x = x; y = y }) ⌝ }
 {
-    m.u * (y - m.y) - m.v * (x - m.x)
+    cross(m.u, m.v, x - m.x, y - m.y)
 }
 
 // How the side of the point against an edge changes.
 fn swing(m: Motion, e: Edge) -> i64
-    requires { ⌜ SwingSteps (fromOf e) (toOf e) (speedOf m) ⌝ }
+    requires { ⌜ CrossSteps (e .bx -ℤ e .ax) (e .by -ℤ e .ay) (m .u) (m .v) ⌝ }
     ensures { λ r. ⌜ r ≡ swing (fromOf e) (toOf e) (speedOf m) ⌝ }
 {
-    (e.bx - e.ax) * m.v - (e.by - e.ay) * m.u
+    cross(e.bx - e.ax, e.by - e.ay, m.u, m.v)
 }
 
 // The moments of a span at which the point lies on the line of an edge.

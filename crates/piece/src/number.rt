@@ -65,7 +65,7 @@ pub(crate) fn side(ax: i64, ay: i64, bx: i64, by: i64, px: i64, py: i64) -> i64
     requires { ⌜ SideSteps ax ay bx by px py ⌝ }
     ensures { λ r. ⌜ r ≡ side ax ay bx by px py ⌝ }
 {
-    (bx - ax) * (py - ay) - (by - ay) * (px - ax)
+    cross(bx - ax, by - ay, px - ax, py - ay)
 }
 
 pub(crate) fn cross(x: i64, y: i64, u: i64, v: i64) -> i64

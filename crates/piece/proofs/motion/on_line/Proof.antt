@@ -12,7 +12,7 @@ use Rattle.decide.specs.Touch.{swing, onLine}
 use Rattle.piece.specs.Moving.{spanOf, Small, Slope}
 use Rattle.piece.specs.Touch.{startOf, speedOf, fromOf, toOf}
 use Rattle.piece.proofs.Moving.{small-clip, turned, turned-fits}
-use Rattle.piece.proofs.Touch.{reached, back, side-steps, swing-steps, line, line′}
+use Rattle.piece.proofs.Touch.{reached, back, line-steps, swing-steps, line, line′}
 use Rattle.piece.proofs.motion.on_line.Statement.{statement}
 use Rattle.piece.proofs.motion.on_line.Tie as tie
 
@@ -40,7 +40,7 @@ side-requires c κs =
     let m = b .args .m in
     let h = b .pre in
     rw (back (e .ax) (reached (e .ax) (h .from .x)), back (e .ay) (reached (e .ay) (h .from .y)), back (e .bx) (reached (e .bx) (h .to .x)), back (e .by) (reached (e .by) (h .to .y)), back (m .x) (reached (m .x) (h .start .x)), back (m .y) (reached (m .y) (h .start .y)))
-    (side-steps _ _ _ _ _ h)
+    (line-steps _ _ _ _ _ h)
 
 -- the two, read back
 the-side : (c : tie.After-side) → toZ w64 (ofZ w64 (c .side .result)) ≡ α (start c)

@@ -4,7 +4,7 @@ use mathlib.Core.Path.{_≡_, refl, sym, subst}
 use Prim.Native.Nat.{ℕ, _+_, _/_, _≤_, _<_, _-_, min}
 use native.Mathlib.Omega.{arith}
 use native.Mathlib.Numerals.{add-one}
-use lib.IntN.{ℤ}
+use lib.IntN.{ℤ, _-ℤ_}
 use lib.ListN.{length}
 use mir.Syntax.{w64}
 use mir.Val.{toZ, ofZ}
@@ -15,7 +15,8 @@ use Rattle.decide.specs.Touch.{across, touch, touches}
 use Rattle.piece.specs.declared.motion.Motion.{Motion}
 use Rattle.piece.specs.declared.span.Span.{Span}
 use Rattle.piece.specs.Moving.{spanOf}
-use Rattle.piece.specs.Touch.{startOf, speedOf, Close, Ready, Standing, AcrossSteps}
+use Rattle.piece.specs.Steps.{CrossSteps}
+use Rattle.piece.specs.Touch.{startOf, speedOf, Close, Ready, Standing}
 use Rattle.piece.proofs.Steps.{reach-abs}
 use Rattle.piece.proofs.Touch.{across-steps}
 use Rattle.piece.proofs.motion.touches.Statement.{statement}
@@ -50,7 +51,7 @@ module _ (l : List ℤ) (m : Motion) (s : Span) (h : Standing l (startOf m) (spe
   some : 0 < ring l .size
   some = let k = h .held .corners .least in omega (arith, k)
 
-  crossed : (i : ℕ) (x y : ℤ) → i < ring l .size → pt x y ≡ ring l .at i → AcrossSteps (startOf m) (speedOf m) x y
+  crossed : (i : ℕ) (x y : ℤ) → i < ring l .size → pt x y ≡ ring l .at i → CrossSteps (m .u) (m .v) (x -ℤ m .x) (y -ℤ m .y)
   crossed i x y k e = let n = subst Close (sym e) (close i k) in across-steps (startOf m) (speedOf m) x y (h .start) (h .speed) (n .x) (n .y)
 
   ready : (i j : ℕ) (ax ay c bx by d : ℤ) → i < ring l .size → j < ring l .size → At l m i ax ay c → At l m j bx by d → Ready (startOf m) (speedOf m) (spanOf s) (pt ax ay) (pt bx by)

@@ -1,6 +1,6 @@
 -- `ring::turn` is the side of three corners. Assumes nothing.
 use mathlib.Core.Path.{_∙_}
-use Rattle.piece.proofs.Steps.{reach-wide, side-steps}
+use Rattle.piece.proofs.Steps.{turn-steps}
 use Rattle.whole.proofs.Range.{read}
 use mir.Syntax.{w64}
 use borrow.Author.Needs.{needs}
@@ -28,7 +28,7 @@ y-requires-3 c κs = search needs
 side-requires : tie.Need-side-requires
 side-requires c κs = let s = c .before .before .before .before .before .before in
     rw (read w64 (c .before .before .before .before .before .x .ok) (c .before .before .before .before .before .x .ensures), read w64 (c .before .before .before .before .y .ok) (c .before .before .before .before .y .ensures), read w64 (c .before .before .before .x2 .ok) (c .before .before .before .x2 .ensures), read w64 (c .before .before .y2 .ok) (c .before .before .y2 .ensures), read w64 (c .before .x3 .ok) (c .before .x3 .ensures), read w64 (c .y3 .ok) (c .y3 .ensures))
-    (side-steps _ _ _ _ _ _ (reach-wide _ (s .pre .0 .x)) (reach-wide _ (s .pre .0 .y)) (reach-wide _ (s .pre .1 .0 .x)) (reach-wide _ (s .pre .1 .0 .y)) (reach-wide _ (s .pre .1 .1 .x)) (reach-wide _ (s .pre .1 .1 .y)))
+    (turn-steps (s .pre .0) (s .pre .1 .0) (s .pre .1 .1))
 
 returns : tie.Need-returns
 returns c = read w64 (c .side .ok) (c .side .ensures ∙ rw (read w64 (c .before .before .before .before .before .before .x .ok) (c .before .before .before .before .before .before .x .ensures), read w64 (c .before .before .before .before .before .y .ok) (c .before .before .before .before .before .y .ensures), read w64 (c .before .before .before .before .x2 .ok) (c .before .before .before .before .x2 .ensures), read w64 (c .before .before .before .y2 .ok) (c .before .before .before .y2 .ensures), read w64 (c .before .before .x3 .ok) (c .before .before .x3 .ensures), read w64 (c .before .y3 .ok) (c .before .y3 .ensures)))

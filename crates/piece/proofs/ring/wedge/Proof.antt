@@ -1,5 +1,5 @@
 -- `ring::wedge` is the cross product of two corners. Assumes nothing.
-use Rattle.piece.proofs.Steps.{reach-abs, cross-steps}
+use Rattle.piece.proofs.Steps.{wedge-steps}
 use mathlib.Core.Path.{_∙_}
 use Rattle.whole.proofs.Range.{read}
 use mir.Syntax.{w64}
@@ -22,7 +22,7 @@ y-requires-2 c κs = search needs
 cross-requires : tie.Need-cross-requires
 cross-requires c κs = let s = c .before .before .before .before in
     rw (read w64 (c .before .before .before .x .ok) (c .before .before .before .x .ensures), read w64 (c .before .before .y .ok) (c .before .before .y .ensures), read w64 (c .before .x2 .ok) (c .before .x2 .ensures), read w64 (c .y2 .ok) (c .y2 .ensures))
-    (cross-steps _ _ _ _ (reach-abs _ (s .pre .0 .x)) (reach-abs _ (s .pre .0 .y)) (reach-abs _ (s .pre .1 .x)) (reach-abs _ (s .pre .1 .y)))
+    (wedge-steps (s .pre .0) (s .pre .1))
 
 returns : tie.Need-returns
 returns c = read w64 (c .cross .ok) (c .cross .ensures ∙ rw (read w64 (c .before .before .before .before .x .ok) (c .before .before .before .before .x .ensures), read w64 (c .before .before .before .y .ok) (c .before .before .before .y .ensures), read w64 (c .before .before .x2 .ok) (c .before .before .x2 .ensures), read w64 (c .before .y2 .ok) (c .before .y2 .ensures)))

@@ -1,7 +1,7 @@
 -- `spot::place_at` computes the place. Assumes nothing.
 use Rattle.piece.proofs.Scan.{Scan, scan-none, scan-step, on-place, in-place, out-place}
 use Rattle.piece.proofs.Outline.{size-of}
-use Rattle.piece.proofs.Steps.{Wide, side-steps, scaled-wide}
+use Rattle.piece.proofs.Steps.{Far, side-steps, scaled-wide}
 use Rattle.piece.specs.Place.{pt, ptOf, Near}
 use Rattle.piece.specs.Shape.{Corner}
 use Rattle.piece.specs.Steps.{SideSteps}
@@ -37,14 +37,11 @@ abbrev μ-loop : tie.MeasureT-loop
 
 -- an edge's ends, over d, and a point: what `side` asks
 module _ (l : List ℤ) (d px py : ℤ) (h : Near d px py) where
-  wide : (i : ℕ) (x y : ℤ) → Corner l i → pt x y ≡ over d (ring l) .at i → Wide x × Wide y
-  wide i x y c e = (subst Wide (sym (ap (λ (q : Pt). q .x) e)) (scaled-wide d _ (h .den) (c .x)), subst Wide (sym (ap (λ (q : Pt). q .y) e)) (scaled-wide d _ (h .den) (c .y)))
+  far : (i : ℕ) (q : Pt) → Corner l i → q ≡ over d (ring l) .at i → Far q
+  far i q c e = subst Far (sym e) (record { x = scaled-wide d _ (h .den) (c .x); y = scaled-wide d _ (h .den) (c .y) })
 
   steps : (i k : ℕ) (ax ay bx by : ℤ) → Corner l i → Corner l k → pt ax ay ≡ over d (ring l) .at i → pt bx by ≡ over d (ring l) .at k → SideSteps ax ay bx by px py
-  steps i k ax ay bx by c e f g =
-      let u = wide i ax ay c f in
-      let v = wide k bx by e g in
-      side-steps ax ay bx by px py (u .0) (u .1) (v .0) (v .1) (h .x) (h .y)
+  steps i k ax ay bx by c e f g = side-steps (pt ax ay) (pt bx by) (pt px py) (far i _ c f) (far k _ e g) (record { x = h .x; y = h .y })
 
 same : (f : Pt → Pt → Bool) (a b p q : Pt) → a ≡ p → b ≡ q → f a b ≡ f p q
 same f a b p q e g = rw (e, g)
