@@ -21,7 +21,7 @@ use Rattle.decide.specs.Span.{Span, ticks, some, first}
 use Rattle.rules.specs.Verdict.{NONE}
 use Rattle.decide.specs.Touch.{least, most, swing, across, sameSide, onLine, within, onEdge, touch, touches, bandSpan, startPoint, over, pointOf, motion, place, fromPlace, meets}
 use Rattle.piece.specs.Moving.{Tame, Small, Bounds, Slope}
-use Rattle.piece.specs.Touch.{Close, Slow, Ready, Flat, Standing, Level, GapSteps, contact, AlongSteps}
+use Rattle.piece.specs.Touch.{Close, Slow, Ready, Flat, Standing, Level, contact, AlongSteps}
 use Rattle.piece.specs.Steps.{CrossSteps, SideSteps}
 use Rattle.piece.proofs.Steps.{reach-abs, cross-most, cross-steps}
 use Rattle.piece.proofs.Moving.{tame-clip, wider, small-clip}
@@ -147,19 +147,6 @@ wide32 (negsuc n) h = let l = h .sfits in omega (arith, l)
 
 pub gap-fits : (a b : ℤ) → SFits w32 a → SFits w32 b → SFits w64 (a -ℤ b)
 gap-fits a b h k = fit (a -ℤ b) (omega (arith, abs-sub a b, wide32 a h, wide32 b k))
-
--- a velocity
-pub swift : (z : ℤ) → natAbs z ≤ 255 → natAbs z ≤ 32768
-swift z h = omega arith
-
-pub back32 : (z : ℤ) → natAbs z ≤ 32768 → toZ w32 (ofZ w32 z) ≡ z
-back32 z h = toZ-ofZ (fits w32 z (omega arith))
-
-pub gap-steps : (a b : ℤ) → natAbs a ≤ 16384 → natAbs b ≤ 16384 → GapSteps a b
-gap-steps a b h k = record { first = fit a (omega (arith, h)); second = fit b (omega (arith, k)); all = fit (a -ℤ b) (omega (arith, diff a b h k)) }
-
-pub minus : (a b c d : ℤ) → c ≡ a → d ≡ b → c -ℤ d ≡ a -ℤ b
-minus a b c d e f = rw (e, f)
 
 -- ---- the band
 pub tame-ticks : (t : ℕ) → t ≤ 4096 → Tame 32768 510 (ticks (pos t))

@@ -2,7 +2,7 @@
 use mathlib.Core.Bool.{Bool, true, false}
 use mathlib.Core.List.{List}
 use Prim.Native.Nat.{ℕ, _≤_, _<_}
-use lib.IntN.{ℤ, natAbs, _+ℤ_, _-ℤ_, _*ℤ_}
+use lib.IntN.{ℤ, natAbs, _+ℤ_, _*ℤ_}
 use mir.Syntax.{w64}
 use mir.Val.{SFits}
 use Rattle.rules.specs.Reach.{Run, Piece}
@@ -74,12 +74,6 @@ pub record AlongSteps (d p n w : ℤ) : Type 0 where
   pub first : SFits w64 (d *ℤ p)
   pub second : SFits w64 (n *ℤ w)
   pub all : SFits w64 (d *ℤ p +ℤ n *ℤ w)
-
--- each step of a − b fits
-pub record GapSteps (a b : ℤ) : Type 0 where
-  pub first : SFits w64 a
-  pub second : SFits w64 b
-  pub all : SFits w64 (a -ℤ b)
 
 -- on or inside
 abbrev pub contact : Where → Bool

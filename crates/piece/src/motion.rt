@@ -30,7 +30,7 @@ ghost use Rattle.piece.specs.Numbers.{runOf, pieceOf};
 ghost use Rattle.piece.specs.Place.{whereOf};
 ghost use Rattle.piece.specs.Moving.{spanOf, Tame};
 ghost use Rattle.piece.specs.Steps.{CrossSteps};
-ghost use Rattle.piece.specs.Touch.{startOf, speedOf, fromOf, toOf, Ready, Flat, Standing, Level, AlongSteps, GapSteps, contact};
+ghost use Rattle.piece.specs.Touch.{startOf, speedOf, fromOf, toOf, Ready, Flat, Standing, Level, AlongSteps, contact};
 
 // What a verdict is: clear, the mark of the first contact, or the refusal.
 pub enum Verdict {
@@ -167,21 +167,6 @@ fn motion_of(run: Run, band: Band) -> Motion
     }
 }
 
-// How far a height is over a band's bottom, and under its top.
-fn over(z: i32, bottom: i32) -> i64
-    requires { ⌜ GapSteps z bottom ⌝ }
-    ensures { λ r. ⌜ r ≡ z -ℤ bottom ⌝ }
-{
-    z as i64 - bottom as i64
-}
-
-fn under(z: i32, top: i32) -> i64
-    requires { ⌜ GapSteps top z ⌝ }
-    ensures { λ r. ⌜ r ≡ top -ℤ z ⌝ }
-{
-    top as i64 - z as i64
-}
-
 // The moments of a run within a piece's band.
 fn band_span(run: Run, band: Band) -> Span
     requires { ⌜ Level (runOf run) (pieceOf band []) ⌝ }
@@ -194,8 +179,8 @@ fn band_span(run: Run, band: Band) -> Span
         high_n: run.ticks as i64,
         high_d: 1,
     };
-    let t = clip(s, over(run.z, band.bottom), w);
-    clip(t, under(run.z, band.top), -w)
+    let t = clip(s, gap(run.z, band.bottom), w);
+    clip(t, gap(band.top, run.z), -w)
 }
 
 // A coordinate at the moment n/d, over d.

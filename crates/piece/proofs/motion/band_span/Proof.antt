@@ -8,14 +8,14 @@ use lib.IntN.{pos, negℤ, natAbs, _-ℤ_}
 use mir.Facts.{toZ-pos}
 use mir.Syntax.{w64}
 use mir.Val.{toZ, ofZ}
-use Rattle.whole.proofs.Range.{read}
+use Rattle.whole.proofs.Range.{got}
 use Rattle.rules.specs.Reach.{Run, Piece}
 use Rattle.decide.specs.Span as decide
 use Rattle.decide.specs.Touch.{bandSpan}
 use Rattle.piece.specs.Numbers.{runOf, pieceOf}
 use Rattle.piece.specs.Moving.{spanOf, Small}
 use Rattle.piece.proofs.Moving.{small-clip, turned, turned-fits}
-use Rattle.piece.proofs.Touch.{reached, swift, back32, gap-steps, minus, climb, over-bottom, under-top, small-ticks, slope-of}
+use Rattle.piece.proofs.Touch.{climb, over-bottom, under-top, small-ticks, slope-of}
 use Rattle.piece.proofs.motion.band_span.Statement.{statement}
 use Rattle.piece.proofs.motion.band_span.Tie as tie
 
@@ -27,25 +27,13 @@ K b = pieceOf (b .args .band) []
 
 -- the differences, read back
 rise : (c : tie.After-gap) → let b = c .before .before .before in toZ w64 (ofZ w64 (c .gap .result)) ≡ climb (R b) (K b)
-rise c =
-    let b = c .before .before .before in
-    let u = b .args .run .vz in
-    let v = b .args .band .vz in
-    read w64 (c .gap .ok) (c .gap .ensures ∙ minus u v _ _ (back32 u (swift u (b .pre .rise))) (back32 v (swift v (b .pre .lift))))
+rise c = got w64 (c .gap .ok) (c .gap .ensures) (search needs)
 
-above : (c : tie.After-over) → let a = c .before .before .before .before .before .before .before .args in toZ w64 (ofZ w64 (c .over .result)) ≡ a .run .z -ℤ a .band .bottom
-above c =
-    let b = c .before .before .before .before .before .before .before in
-    let u = b .args .run .z in
-    let v = b .args .band .bottom in
-    read w64 (c .over .ok) (c .over .ensures ∙ minus u v _ _ (back32 u (reached u (b .pre .start))) (back32 v (reached v (b .pre .bottom))))
+above : (c : tie.After-gap2) → let a = c .before .before .before .before .before .before .before .args in toZ w64 (ofZ w64 (c .gap2 .result)) ≡ a .run .z -ℤ a .band .bottom
+above c = got w64 (c .gap2 .ok) (c .gap2 .ensures) (search needs)
 
-under : (c : tie.After-under) → let a = c .before .before .before .before .before .before .before .before .before .before .before .args in toZ w64 (ofZ w64 (c .under .result)) ≡ a .band .top -ℤ a .run .z
-under c =
-    let b = c .before .before .before .before .before .before .before .before .before .before .before in
-    let u = b .args .band .top in
-    let v = b .args .run .z in
-    read w64 (c .under .ok) (c .under .ensures ∙ minus u v _ _ (back32 u (reached u (b .pre .top))) (back32 v (reached v (b .pre .start))))
+under : (c : tie.After-gap3) → let a = c .before .before .before .before .before .before .before .before .before .before .before .args in toZ w64 (ofZ w64 (c .gap3 .result)) ≡ a .band .top -ℤ a .run .z
+under c = got w64 (c .gap3 .ok) (c .gap3 .ensures) (search needs)
 
 -- the run's length
 long : (b : tie.Start) → toZ w64 (b .args .run .ticks) ≡ pos (b .args .run .ticks)
@@ -57,12 +45,8 @@ gap-requires c κs = search needs
 cast-clip : tie.Need-cast-clip
 cast-clip c = search needs
 
-over-requires : tie.Need-over-requires
-over-requires c κs =
-    let b = c .before .before .before .before .before .before in
-    let u = b .args .run .z in
-    let v = b .args .band .bottom in
-    rw (back32 u (reached u (b .pre .start)), back32 v (reached v (b .pre .bottom))) (gap-steps u v (b .pre .start) (b .pre .bottom))
+gap-requires-2 : tie.Need-gap-requires-2
+gap-requires-2 c κs = search needs
 
 clip-requires : tie.Need-clip-requires
 clip-requires c κs =
@@ -77,12 +61,8 @@ clipped c =
     let b = c .before .before .before .before .before .before .before .before in
     rw (long b, above (c .before), rise (c .before .before .before .before .before)) at (c .clip .ensures)
 
-under-requires : tie.Need-under-requires
-under-requires c κs =
-    let b = c .before .before .before .before .before .before .before .before .before .before in
-    let u = b .args .band .top in
-    let v = b .args .run .z in
-    rw (back32 u (reached u (b .pre .top)), back32 v (reached v (b .pre .start))) (gap-steps u v (b .pre .top) (b .pre .start))
+gap-requires-3 : tie.Need-gap-requires-3
+gap-requires-3 c κs = search needs
 
 -- the sign of the rise, turned
 steep : (b : tie.Start) → natAbs (climb (R b) (K b)) ≤ 8589934592
@@ -109,4 +89,4 @@ returns c =
     ∙ ap (λ (t : decide.Span). decide.clip t (b .args .band .top -ℤ b .args .run .z) (negℤ (climb (R b) (K b)))) (clipped (d .before .before .before))
 
 pub band-span-spec : {M : Type 1} → statement M
-band-span-spec = tie.close (tie.spec gap-requires cast-clip over-requires clip-requires under-requires sub-clip clip-requires-2 returns)
+band-span-spec = tie.close (tie.spec gap-requires cast-clip gap-requires-2 clip-requires gap-requires-3 sub-clip clip-requires-2 returns)

@@ -1,10 +1,8 @@
 -- `motion::motion_of` is the point and its motion. Assumes nothing.
-use mathlib.Core.Path.{_∙_}
-use native.Mathlib.Omega.{arith}
 use borrow.Author.Needs.{needs}
-use mir.Syntax.{w32, w64}
-use Rattle.whole.proofs.Range.{read, field}
-use Rattle.piece.proofs.Touch.{minus}
+use mir.Syntax.{w64}
+use Rattle.whole.proofs.Range.{got}
+use Rattle.rules.proofs.Share.{pt-eq}
 use Rattle.piece.proofs.motion.motion_of.Statement.{statement}
 use Rattle.piece.proofs.motion.motion_of.Tie as tie
 
@@ -22,18 +20,12 @@ gap-requires-2 c κs = search needs
 
 returns : tie.Need-returns
 returns c =
-    let b = c .before .before .before .before .before .before .before .before .before .before in
-    let r = b .args .run in
-    let k = b .args .band in
     let x = c .before .before .before .before .before .before .before .before .wide in
     let y = c .before .before .before .before .before .before .wide2 in
     let u = c .before .before .before .gap in
     let v = c .gap2 in (
-      rw (read w64 (x .ok) (x .ensures ∙ field w32 (r .x) (omega arith)), read w64 (y .ok) (y .ensures ∙ field w32 (r .y) (omega arith))),
-      rw (
-        read w64 (u .ok) (u .ensures ∙ minus (r .vx) (k .vx) _ _ (field w32 (r .vx) (omega arith)) (field w32 (k .vx) (omega arith))),
-        read w64 (v .ok) (v .ensures ∙ minus (r .vy) (k .vy) _ _ (field w32 (r .vy) (omega arith)) (field w32 (k .vy) (omega arith))),
-      ),
+      pt-eq _ _ (got w64 (x .ok) (x .ensures) (search needs)) (got w64 (y .ok) (y .ensures) (search needs)),
+      pt-eq _ _ (got w64 (u .ok) (u .ensures) (search needs)) (got w64 (v .ok) (v .ensures) (search needs)),
     )
 
 pub motion-of-spec : {M : Type 1} → statement M
