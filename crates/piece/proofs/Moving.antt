@@ -85,8 +85,8 @@ crossed s n d h k = record {
 }
 
 -- a tame number, read back
-pub tame-back : (z : ℤ) → natAbs z ≤ 8589934592 → toZ w64 (ofZ w64 z) ≡ z
-tame-back z h = toZ-ofZ (fits w64 z (omega arith))
+pub back : (z : ℤ) → natAbs z ≤ 8589934592 → toZ w64 (ofZ w64 z) ≡ z
+back z h = toZ-ofZ (fits w64 z (omega arith))
 
 zero-sub : (a : ℤ) → pos 0 -ℤ a ≡ negℤ a
 zero-sub = all _ λ a a′. simp ring (omega arith)

@@ -1,5 +1,5 @@
 -- What a motion and an edge within reach give is small. Assumes nothing.
-use mathlib.Core.Path.{_≡_, refl, sym}
+use mathlib.Core.Path.{_≡_, refl, sym, _∙_}
 use mathlib.Core.Bool.{true, false}
 use Prim.Native.Nat.{ℕ, _+_, _*_, _/_, _%_, _≤_}
 use native.Mathlib.Omega.{arith}
@@ -9,7 +9,6 @@ use lib.ListN.{length}
 use lib.Signed.{leZ}
 use mir.Syntax.{w32, w64}
 use mir.Val.{SFits, toZ, ofZ}
-use mir.Facts.{toZ-ofZ}
 use Rattle.whole.proofs.Flag.{by-flag, false-true}
 use Rattle.whole.proofs.Range.{fits, abs-by, abs-add, abs-sub, abs-mul-le, abs-neg}
 use Rattle.rules.specs.Reach.{Speed, Run, Piece}
@@ -24,27 +23,17 @@ use Rattle.piece.specs.Moving.{Tame, Small, Bounds, Slope}
 use Rattle.piece.specs.Touch.{Close, Slow, Ready, Flat, Standing, Level, contact, AlongSteps}
 use Rattle.piece.specs.Steps.{CrossSteps, SideSteps}
 use Rattle.piece.proofs.Steps.{reach-abs, cross-most, cross-steps}
-use Rattle.piece.proofs.Moving.{tame-clip, wider, small-clip}
+use Rattle.piece.proofs.Moving.{tame-clip, wider, small-clip, back}
 
 -- numbers within reach, and their differences
-pub reached : (z : ℤ) → natAbs z ≤ 16384 → natAbs z ≤ 32768
-reached z h = omega arith
-
 diff : (a b : ℤ) → natAbs a ≤ 16384 → natAbs b ≤ 16384 → natAbs (a -ℤ b) ≤ 32768
 diff a b h k = omega (arith, abs-sub a b)
 
 fit : (z : ℤ) → natAbs z ≤ 4294967296 → SFits w64 z
 fit z h = fits w64 z (omega arith)
 
--- a small number, read back
-pub back : (z : ℤ) → natAbs z ≤ 32768 → toZ w64 (ofZ w64 z) ≡ z
-back z h = toZ-ofZ (fit z (omega arith))
-
 fit-mul : (x y : ℤ) → natAbs x ≤ 32768 → natAbs y ≤ 32768 → SFits w64 (x *ℤ y)
 fit-mul x y h k = fit (x *ℤ y) (omega (arith, abs-mul-le x y 32768 32768 h k))
-
-pub wide : (z : ℤ) → natAbs z ≤ 510 → natAbs z ≤ 32768
-wide z h = omega arith
 
 pub across-steps : (p w : Pt) (x y : ℤ) → Close p → Slow w → natAbs x ≤ 16384 → natAbs y ≤ 16384 → CrossSteps (w .x) (w .y) (x -ℤ p .x) (y -ℤ p .y)
 across-steps p w x y h k i j = cross-steps _ _ _ _ (omega (arith, k .x)) (omega (arith, k .y)) (omega (arith, diff x (p .x) i (h .x))) (omega (arith, diff y (p .y) j (h .y)))
@@ -110,6 +99,19 @@ module _ (p w : ℤ) (s : Span) (a b : ℤ) (h : Flat p w s a b) where
 
   pub high : Slope (most a b -ℤ p) (negℤ w)
   high = record { base = omega (arith, high-most); slope = rw (abs-neg w) (omega (arith, h .speed)) }
+
+  -- as a machine reads them back, and the span as a call hands it over
+  abbrev read : ℤ → ℤ
+  read z = toZ w64 (ofZ w64 z)
+
+  as-read : (P : ℤ → ℤ → ℤ → ℤ → Type 0) → P p w a b → P (read p) (read w) (read a) (read b)
+  as-read P k = rw (back p (omega (arith, h .start)), back w (omega (arith, h .speed)), back a (omega (arith, h .from)), back b (omega (arith, h .to))) k
+
+  pub flat-read : (t : Span) → t ≡ s → Flat (read p) (read w) t (read a) (read b)
+  flat-read t e = as-read (λ p w a b. Flat p w t a b) (rw e h)
+
+  pub within-read : (r t : Span) → r ≡ within (read p) (read w) t (read a) (read b) → t ≡ s → r ≡ within p w s a b
+  within-read r t g e = g ∙ as-read (λ p′ w′ a′ b′. within p′ w′ t a′ b′ ≡ within p w s a b) (rw e)
 
   pub small-within : Small (within p w s a b)
   unfolding within
@@ -183,8 +185,8 @@ module _ (d p n w : ℤ) (h : natAbs d ≤ 510) (i : natAbs p ≤ 16384) (j : na
 
   pub along-steps : AlongSteps d p n w
   along-steps = record {
-    first = fit-mul d p (wide d h) (reached p i);
-    second = fit-mul n w j (wide w k);
+    first = fit-mul d p (omega arith) (omega arith);
+    second = fit-mul n w j (omega arith);
     all = fit _ (omega (arith, along-most));
   }
 

@@ -3,16 +3,17 @@ use mathlib.Core.Path.{_≡_, sym, subst, ap, _∙_}
 use native.Mathlib.Omega.{arith}
 use Prim.Native.Nat.{_≤_}
 use lib.IntN.{ℤ, negℤ, natAbs}
+use borrow.Author.Needs.{needs}
 use mir.Syntax.{w64}
 use mir.Val.{toZ, ofZ}
-use Rattle.whole.proofs.Range.{read}
+use Rattle.whole.proofs.Range.{read, got}
 use Rattle.rules.specs.Side.{o}
 use Rattle.decide.specs.Span as decide
 use Rattle.decide.specs.Touch.{swing, onLine}
 use Rattle.piece.specs.Moving.{spanOf, Small, Slope}
 use Rattle.piece.specs.Touch.{startOf, speedOf, fromOf, toOf}
 use Rattle.piece.proofs.Moving.{small-clip, turned, turned-fits}
-use Rattle.piece.proofs.Touch.{reached, back, line-steps, swing-steps, line, line′}
+use Rattle.piece.proofs.Touch.{line-steps, swing-steps, line, line′}
 use Rattle.piece.proofs.motion.on_line.Statement.{statement}
 use Rattle.piece.proofs.motion.on_line.Tie as tie
 
@@ -34,23 +35,11 @@ steep : (b : tie.Start) → natAbs (β b) ≤ 8589934592
 steep b = let h = slope b .slope in omega (arith, h)
 
 side-requires : tie.Need-side-requires
-side-requires c κs =
-    let b = c .before .before .before .before .before .before in
-    let e = b .args .e in
-    let m = b .args .m in
-    let h = b .pre in
-    rw (back (e .ax) (reached (e .ax) (h .from .x)), back (e .ay) (reached (e .ay) (h .from .y)), back (e .bx) (reached (e .bx) (h .to .x)), back (e .by) (reached (e .by) (h .to .y)), back (m .x) (reached (m .x) (h .start .x)), back (m .y) (reached (m .y) (h .start .y)))
-    (line-steps _ _ _ _ _ h)
+side-requires c κs = let h = line-steps _ _ _ _ _ (c .before .before .before .before .before .before .pre) in search needs
 
 -- the two, read back
 the-side : (c : tie.After-side) → toZ w64 (ofZ w64 (c .side .result)) ≡ α (start c)
-the-side c =
-    let b = start c in
-    let e = b .args .e in
-    let m = b .args .m in
-    let h = b .pre in
-    read w64 (c .side .ok)
-    (rw (back (e .ax) (reached (e .ax) (h .from .x)), back (e .ay) (reached (e .ay) (h .from .y)), back (e .bx) (reached (e .bx) (h .to .x)), back (e .by) (reached (e .by) (h .to .y)), back (m .x) (reached (m .x) (h .start .x)), back (m .y) (reached (m .y) (h .start .y))) at (c .side .ensures))
+the-side c = got w64 (c .side .ok) (c .side .ensures) (search needs)
 
 swing-requires : tie.Need-swing-requires
 swing-requires c κs = swing-steps _ _ _ _ _ (start c .pre)
