@@ -24,12 +24,12 @@ least-low p a b = by-flag (λ z. p <ℤ z → (p <ℤ a) × (p <ℤ b)) (leZ a b
 pub most-high : (p a b : ℤ) → most a b <ℤ p → (a <ℤ p) × (b <ℤ p)
 most-high p a b = by-flag (λ z. z <ℤ p → (a <ℤ p) × (b <ℤ p)) (leZ a b) b a (λ e h. (le-lt-trans a b p (le-true a b e) h, h)) (λ e h. (h, le-lt-trans b a p (lt-le _ _ (le-false a b e)) h))
 
--- outside both ends is outside the least and the most
-pub low-least : (p a b : ℤ) → p <ℤ a → p <ℤ b → p <ℤ least a b
-low-least p a b h k = by-flag (λ z. p <ℤ z) (leZ a b) a b (λ e. h) (λ e. k)
+-- what both ends have, the least and the most have
+pub least-of : (P : ℤ → Type 0) (a b : ℤ) → P a → P b → P (least a b)
+least-of P a b h k = by-flag P (leZ a b) a b (λ e. h) (λ e. k)
 
-pub high-most : (p a b : ℤ) → a <ℤ p → b <ℤ p → most a b <ℤ p
-high-most p a b h k = by-flag (λ z. z <ℤ p) (leZ a b) b a (λ e. k) (λ e. h)
+pub most-of : (P : ℤ → Type 0) (a b : ℤ) → P a → P b → P (most a b)
+most-of P a b h k = by-flag P (leZ a b) b a (λ e. k) (λ e. h)
 
 -- on the line, and within the box
 pub record Boxed (p a b : Pt) : Type 0 where
@@ -61,16 +61,16 @@ boxed-on p a b h = ⊎-elim (λ q. q) (λ q. absurd (never q)) (on-or-off p a b)
     never (left q _) = clash _ _ q (h .right)
     never (right′ q _) = neg-not _ (no-line (p .x) (p .y) (a .x) (a .y)) q
     never (left′ q _) = pos-not _ (no-line (p .x) (p .y) (a .x) (a .y)) q
-    never (below i j _ _) = clash _ _ (low-least (p .y) (a .y) (b .y) i j) (h .y-low)
-    never (above i j _ _) = clash _ _ (high-most (p .y) (a .y) (b .y) i j) (h .y-high)
-    never (before i j _ _) = clash _ _ (low-least (p .x) (a .x) (b .x) i j) (h .x-low)
-    never (behind i j _ _) = clash _ _ (high-most (p .x) (a .x) (b .x) i j) (h .x-high)
+    never (below i j _ _) = clash _ _ (least-of (λ z. p .y <ℤ z) (a .y) (b .y) i j) (h .y-low)
+    never (above i j _ _) = clash _ _ (most-of (λ z. z <ℤ p .y) (a .y) (b .y) i j) (h .y-high)
+    never (before i j _ _) = clash _ _ (least-of (λ z. p .x <ℤ z) (a .x) (b .x) i j) (h .x-low)
+    never (behind i j _ _) = clash _ _ (most-of (λ z. z <ℤ p .x) (a .x) (b .x) i j) (h .x-high)
 
 -- ---- as a test
-range-yes : (a z b : ℤ) → ranged a z b ≡ true → (a ≤ℤ z) × (z ≤ℤ b)
+pub range-yes : (a z b : ℤ) → ranged a z b ≡ true → (a ≤ℤ z) × (z ≤ℤ b)
 range-yes a z b t = let k = and-yes (leZ a z) (leZ z b) t in (le-true a z (k .0), le-true z b (k .1))
 
-yes-range : (a z b : ℤ) → a ≤ℤ z → z ≤ℤ b → ranged a z b ≡ true
+pub yes-range : (a z b : ℤ) → a ≤ℤ z → z ≤ℤ b → ranged a z b ≡ true
 yes-range a z b h k = and-both _ _ (true-le a z h) (true-le z b k)
 
 module _ (p a b : Pt) where

@@ -19,7 +19,7 @@ use Rattle.rules.proofs.Place.{bit, place-parity, zero-one}
 use Rattle.rules.proofs.Verdict.{mark-answers}
 use Rattle.rules.proofs.Contact.{place-relative, relative-place}
 use Rattle.decide.specs.Span.{Span, ticks, some, first}
-use Rattle.decide.specs.Touch.{touches, place, pointOf, motion, bandSpan, startPoint, over, fromPlace, meets, code}
+use Rattle.decide.specs.Touch.{touches, place, pointOf, motion, bandSpan, startPoint, over, contact, meets, code}
 use Rattle.decide.proofs.Span.{Proper, In, begin, Clips, clips, turned, both, begins, no-moment, first-mark, between}
 use Rattle.decide.proofs.Touch.{at, diff-le, le-diff}
 use Rattle.decide.proofs.Place.{place-right}
@@ -71,8 +71,8 @@ module _ (r : Run) (k : Piece) where
   abbrev Here : Frac → Where → Type 0
   Here t w = Place (over (t .den) corners) (at (pointOf r) (motion r k) t) w
 
-  contact : (t : Frac) → In span t → Here t on ⊎ Here t inside → Contact r k t
-  contact t i h = record { place = ⊎-elim (λ p. inl (place-relative r k t on p)) (λ p. inr (place-relative r k t inside p)) h; band = in-band t i }
+  touching : (t : Frac) → In span t → Here t on ⊎ Here t inside → Contact r k t
+  touching t i h = record { place = ⊎-elim (λ p. inl (place-relative r k t on p)) (λ p. inr (place-relative r k t inside p)) h; band = in-band t i }
 
   placed : (t : Frac) → Contact r k t → Here t on ⊎ Here t inside
   placed t c = ⊎-elim (λ p. inl (relative-place r k t on p)) (λ p. inr (relative-place r k t inside p)) (c .place)
@@ -106,7 +106,7 @@ module _ (r : Run) (k : Piece) where
   later c s i f h (never e g) = subst (λ (n : ℕ). Verdict r k (answer n)) (sym e) (λ t m q. let x = touch-before s i f h t (in-span t m (q .band)) q in g (x .0) (x .1) (x .3))
   later c s i f h (when lo j q g m b) =
       mark-answers r k c b
-      (marked c lo j (contact lo j (inl (record { edge = q .0; below = q .1; on = q .2 }))) (λ t l z. let x = touch-before s i f h t l z in trans lo (x .0) t (g (x .0) (x .1) (x .3)) (x .2)) m)
+      (marked c lo j (touching lo j (inl (record { edge = q .0; below = q .1; on = q .2 }))) (λ t l z. let x = touch-before s i f h t l z in trans lo (x .0) t (g (x .0) (x .1) (x .3)) (x .2)) m)
 
   pub verdict-right : Ticks (r .ticks) → Verdict r k (answer (code r k))
   unfolding code meets
@@ -119,13 +119,13 @@ module _ (r : Run) (k : Piece) where
       earliest t j = j .after
 
       here : In span lo → Here lo on ⊎ Here lo inside → Verdict r k (answer (first span))
-      here i h = mark-answers r k (first span) (below-none (first span) lo (first-mark span proper) (early ok lo i)) (marked (first span) lo i (contact lo i h) (λ t j c. earliest t j) (first-mark span proper))
+      here i h = mark-answers r k (first span) (below-none (first span) lo (first-mark span proper) (early ok lo i)) (marked (first span) lo i (touching lo i h) (λ t j c. earliest t j) (first-mark span proper))
 
-      from : (w : Where) → Here lo w → In span lo → Verdict r k (answer (fromPlace w (first span) (touches corners (pointOf r) (motion r k) span (corners .size))))
+      from : (w : Where) → Here lo w → In span lo → Verdict r k (answer (cond (contact w) (first span) (touches corners (pointOf r) (motion r k) span (corners .size))))
       from on p i = here i (inl p)
       from inside p i = here i (inr p)
       from outside p i = later (touches corners (pointOf r) (motion r k) span (corners .size)) lo i earliest p (first-touches corners (pointOf r) (motion r k) span proper (early ok) (corners .size))
 
-      go : (b : Bool) → some span ≡ b → Verdict r k (answer (cond b (fromPlace (place (over (span .lowD) corners) (startPoint (pointOf r) (motion r k) span)) (first span) (touches corners (pointOf r) (motion r k) span (corners .size))) NONE))
+      go : (b : Bool) → some span ≡ b → Verdict r k (answer (cond b (cond (contact (place (over (span .lowD) corners) (startPoint (pointOf r) (motion r k) span))) (first span) (touches corners (pointOf r) (motion r k) span (corners .size))) NONE))
       go true e = from (place (over (span .lowD) corners) (startPoint (pointOf r) (motion r k) span)) (place-right (over (span .lowD) corners) (startPoint (pointOf r) (motion r k) span)) (begins span proper e)
       go false e = λ t m c. no-moment span proper e t (in-span t m (c .band))

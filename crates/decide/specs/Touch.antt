@@ -1,5 +1,5 @@
 -- What the verdict computes: the first mark at which a point touches a standing footprint within a span. Assumes nothing.
-use mathlib.Core.Bool.{Bool, false, cond, _&&_, _||_}
+use mathlib.Core.Bool.{Bool, true, false, cond, _&&_, _||_}
 use Prim.Native.Nat.{ℕ, zero, suc, min}
 use lib.IntN.{ℤ, pos, negℤ, _+ℤ_, _-ℤ_, _*ℤ_}
 use lib.Signed.{leZ, ltZ}
@@ -79,14 +79,15 @@ startPoint p w s = record { x = s .lowD *ℤ p .x +ℤ s .lowN *ℤ w .x; y = s 
 abbrev pub over : ℤ → Ring → Ring
 over d r = record { size = r .size; at = λ i. times d (r .at i) }
 
-abbrev pub fromPlace : Where → ℕ → ℕ → ℕ
-fromPlace on here later = here
-fromPlace inside here later = here
-fromPlace outside here later = later
+-- on or inside
+abbrev pub contact : Where → Bool
+contact on = true
+contact inside = true
+contact outside = false
 
 -- the first mark of a point that runs at w within a span
 unfoldable pub meets : Ring → Pt → Pt → Span → ℕ
-meets r p w s = cond (some s) (fromPlace (place (over (s .lowD) r) (startPoint p w s)) (first s) (touches r p w s (r .size))) NONE
+meets r p w s = cond (some s) (cond (contact (place (over (s .lowD) r) (startPoint p w s))) (first s) (touches r p w s (r .size))) NONE
 
 unfoldable pub code : Run → Piece → ℕ
 code r k = meets (ring (k .corners)) (pointOf r) (motion r k) (bandSpan r k)

@@ -14,7 +14,7 @@ use Rattle.rules.proofs.On.{on-or-off, off-not-on}
 use Rattle.rules.proofs.Share.{pt-eq, share-or-apart, apart-not-share}
 use Rattle.decide.specs.Touch.{least, most, sameSide}
 use Rattle.decide.proofs.Touch.{same-yes}
-use Rattle.decide.proofs.Place.{least-low, most-high, low-least, high-most}
+use Rattle.decide.proofs.Place.{least-low, most-high, least-of, most-of}
 use Rattle.piece.specs.Decide.{Decides}
 use Rattle.piece.specs.Shape.{equal, parted, boxes, aside, shares, bends}
 
@@ -39,10 +39,10 @@ parted-yes a b c d e = ⊎-elim (λ f. first (most-high (least a b) c d (lt-true
     second h = let k = least-low a c d (h .0) in let l = least-low b c d (h .1) in after (k .0) (l .0) (k .1) (l .1)
 
 under-parted : (a b c d : ℤ) → c <ℤ a → c <ℤ b → d <ℤ a → d <ℤ b → parted a b c d ≡ true
-under-parted a b c d h i j k = or-left (ltZ (most c d) (least a b)) (ltZ (most a b) (least c d)) (true-lt _ _ (high-most (least a b) c d (low-least c a b h i) (low-least d a b j k)))
+under-parted a b c d h i j k = or-left (ltZ (most c d) (least a b)) (ltZ (most a b) (least c d)) (true-lt _ _ (most-of (λ z. z <ℤ least a b) c d (least-of (λ z. c <ℤ z) a b h i) (least-of (λ z. d <ℤ z) a b j k)))
 
 over-parted : (a b c d : ℤ) → a <ℤ c → b <ℤ c → a <ℤ d → b <ℤ d → parted a b c d ≡ true
-over-parted a b c d h i j k = or-right (ltZ (most c d) (least a b)) (ltZ (most a b) (least c d)) (true-lt _ _ (high-most (least c d) a b (low-least a c d h j) (low-least b c d i k)))
+over-parted a b c d h i j k = or-right (ltZ (most c d) (least a b)) (ltZ (most a b) (least c d)) (true-lt _ _ (most-of (λ z. z <ℤ least c d) a b (least-of (λ z. a <ℤ z) c d h j) (least-of (λ z. b <ℤ z) c d i k)))
 
 -- ---- signs
 same-minus : (u v : ℤ) → u <ℤ pos 0 → v <ℤ pos 0 → sameSide u v ≡ true

@@ -8,11 +8,9 @@ use native.Mathlib.Omega.{arith}
 use lib.IntN.{ℤ, pos}
 use lib.ListN.{length, set, length-set}
 use lib.Seq.{getD-set-same, getD-set-other}
-use lib.Signed.{leZ}
 use mir.Syntax.{w16}
 use mir.Val.{SFits}
 use Rattle.whole.proofs.Order.{ℕ-or}
-use Rattle.whole.proofs.Flag.{by-flag}
 use Rattle.whole.proofs.Range.{fits}
 use Rattle.rules.specs.Reach.{Reach}
 use Rattle.rules.specs.Ring.{Ring, from, to}
@@ -21,15 +19,9 @@ use Rattle.piece.specs.Table.{Range, Boxed, AllBoxed, split, Put}
 use Rattle.piece.specs.Shape.{boxes}
 use Rattle.piece.proofs.Steps.{reach-abs}
 
--- ---- numbers within reach fit 16 bits, and so does the lower and the higher of two
+-- ---- numbers within reach fit 16 bits
 pub reach-narrow : (z : ℤ) → Reach z → SFits w16 z
 reach-narrow z h = fits w16 z (omega (arith, reach-abs z h))
-
-pub least-narrow : (a b : ℤ) → SFits w16 a → SFits w16 b → SFits w16 (least a b)
-least-narrow a b h k = by-flag (SFits w16) (leZ a b) a b (λ e. h) (λ e. k)
-
-pub most-narrow : (a b : ℤ) → SFits w16 a → SFits w16 b → SFits w16 (most a b)
-most-narrow a b h k = by-flag (SFits w16) (leZ a b) b a (λ e. k) (λ e. h)
 
 -- ---- a range is put
 pub put-range : (t : List ℤ) (u : ℕ) (a b : ℤ) → u + 1 < length t → Put t (set (set t u (least a b)) (u + 1) (most a b)) u a b

@@ -1,26 +1,24 @@
 -- What a motion and an edge within reach give is small. Assumes nothing.
-use mathlib.Core.Path.{_≡_, refl, sym, _∙_}
+use mathlib.Core.Path.{_≡_, _∙_}
 use mathlib.Core.Bool.{true, false}
 use Prim.Native.Nat.{ℕ, _+_, _*_, _/_, _%_, _≤_}
 use native.Mathlib.Omega.{arith}
 use lib.Dec.{le→leb}
 use lib.IntN.{ℤ, pos, negsuc, negℤ, natAbs, _+ℤ_, _-ℤ_, _*ℤ_}
 use lib.ListN.{length}
-use lib.Signed.{leZ}
 use mir.Syntax.{w32, w64}
 use mir.Val.{SFits, toZ, ofZ}
-use Rattle.whole.proofs.Flag.{by-flag, false-true}
 use Rattle.whole.proofs.Range.{fits, abs-by, abs-add, abs-sub, abs-mul-le, abs-neg}
 use Rattle.rules.specs.Reach.{Speed, Run, Piece}
 use Rattle.rules.specs.Ring.{Pt, Ring}
-use Rattle.rules.specs.Place.{Where, on, inside, outside}
 use Rattle.rules.specs.Good.{RunKnown, PieceKnown}
 use Rattle.rules.specs.Side.{o}
 use Rattle.decide.specs.Span.{Span, ticks, some, first}
 use Rattle.rules.specs.Verdict.{NONE}
-use Rattle.decide.specs.Touch.{least, most, swing, across, sameSide, onLine, within, onEdge, touch, touches, bandSpan, startPoint, over, pointOf, motion, place, fromPlace, meets}
+use Rattle.decide.proofs.Place.{least-of, most-of}
+use Rattle.decide.specs.Touch.{least, most, swing, across, sameSide, onLine, within, onEdge, touch, touches, bandSpan, startPoint, over, pointOf, motion, place, contact, meets}
 use Rattle.piece.specs.Moving.{Tame, Small, Bounds, Slope}
-use Rattle.piece.specs.Touch.{Close, Slow, Ready, Flat, Standing, Level, contact, AlongSteps}
+use Rattle.piece.specs.Touch.{Close, Slow, Ready, Flat, Standing, Level, AlongSteps}
 use Rattle.piece.specs.Steps.{CrossSteps, SideSteps}
 use Rattle.piece.proofs.Steps.{reach-abs, cross-most, cross-steps}
 use Rattle.piece.proofs.Moving.{tame-clip, wider, small-clip, back}
@@ -75,18 +73,12 @@ module _ (p w : Pt) (s : Span) (a b : Pt) (h : Ready p w s a b) where
   small-line = small-clip _ _ _ (small-clip s _ _ (h .span) line) line′
 
 -- ---- along one coordinate
-least-most : (a b : ℤ) → natAbs a ≤ 16384 → natAbs b ≤ 16384 → natAbs (least a b) ≤ 16384
-least-most a b h k = by-flag (λ z. natAbs z ≤ 16384) (leZ a b) a b (λ e. h) (λ e. k)
-
-most-most : (a b : ℤ) → natAbs a ≤ 16384 → natAbs b ≤ 16384 → natAbs (most a b) ≤ 16384
-most-most a b h k = by-flag (λ z. natAbs z ≤ 16384) (leZ a b) b a (λ e. k) (λ e. h)
-
 module _ (p w : ℤ) (s : Span) (a b : ℤ) (h : Flat p w s a b) where
   low-most : natAbs (p -ℤ least a b) ≤ 32768
-  low-most = diff p (least a b) (h .start) (least-most a b (h .from) (h .to))
+  low-most = diff p (least a b) (h .start) (least-of (λ z. natAbs z ≤ 16384) a b (h .from) (h .to))
 
   high-most : natAbs (most a b -ℤ p) ≤ 32768
-  high-most = diff (most a b) p (most-most a b (h .from) (h .to)) (h .start)
+  high-most = diff (most a b) p (most-of (λ z. natAbs z ≤ 16384) a b (h .from) (h .to)) (h .start)
 
   pub low-fits : SFits w64 (p -ℤ least a b)
   low-fits = fit _ (omega (arith, low-most))
@@ -191,16 +183,6 @@ module _ (d p n w : ℤ) (h : natAbs d ≤ 510) (i : natAbs p ≤ 16384) (j : na
   }
 
 -- ---- the first mark within a span, by its tests
-from-here : (v : Where) (here later : ℕ) → contact v ≡ true → fromPlace v here later ≡ here
-from-here on here later e = refl
-from-here inside here later e = refl
-from-here outside here later e = absurd (false-true e)
-
-from-later : (v : Where) (here later : ℕ) → contact v ≡ false → fromPlace v here later ≡ later
-from-later on here later e = absurd (false-true (sym e))
-from-later inside here later e = absurd (false-true (sym e))
-from-later outside here later e = refl
-
 module _ (r : Ring) (p w : Pt) (s : Span) where
   pub meets-none : some s ≡ false → NONE ≡ meets r p w s
   unfolding meets
@@ -208,11 +190,11 @@ module _ (r : Ring) (p w : Pt) (s : Span) where
 
   pub meets-here : some s ≡ true → contact (place (over (s .lowD) r) (startPoint p w s)) ≡ true → first s ≡ meets r p w s
   unfolding meets
-  meets-here e f = rw (e, from-here (place (over (s .lowD) r) (startPoint p w s)) (first s) (touches r p w s (r .size)) f)
+  meets-here e f = rw (e, f)
 
   pub meets-later : some s ≡ true → contact (place (over (s .lowD) r) (startPoint p w s)) ≡ false → touches r p w s (r .size) ≡ meets r p w s
   unfolding meets
-  meets-later e f = rw (e, from-later (place (over (s .lowD) r) (startPoint p w s)) (first s) (touches r p w s (r .size)) f)
+  meets-later e f = rw (e, f)
 
 -- ---- numbers that are taken
 speed-abs : (z : ℤ) → Speed z → natAbs z ≤ 255

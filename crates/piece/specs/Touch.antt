@@ -1,5 +1,4 @@
 -- The points, motions and edges that plain numbers say, and the sizes that the code computes with. Assumes nothing.
-use mathlib.Core.Bool.{Bool, true, false}
 use mathlib.Core.List.{List}
 use Prim.Native.Nat.{ℕ, _≤_, _<_}
 use lib.IntN.{ℤ, natAbs, _+ℤ_, _*ℤ_}
@@ -7,7 +6,6 @@ use mir.Syntax.{w64}
 use mir.Val.{SFits}
 use Rattle.rules.specs.Reach.{Run, Piece}
 use Rattle.rules.specs.Ring.{Pt, ring}
-use Rattle.rules.specs.Place.{Where, on, inside, outside}
 use Rattle.decide.specs.Span.{Span}
 use Rattle.piece.specs.declared.motion.Motion.{Motion}
 use Rattle.piece.specs.declared.motion.Edge.{Edge}
@@ -74,9 +72,3 @@ pub record AlongSteps (d p n w : ℤ) : Type 0 where
   pub first : SFits w64 (d *ℤ p)
   pub second : SFits w64 (n *ℤ w)
   pub all : SFits w64 (d *ℤ p +ℤ n *ℤ w)
-
--- on or inside
-abbrev pub contact : Where → Bool
-contact on = true
-contact inside = true
-contact outside = false

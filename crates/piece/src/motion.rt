@@ -25,12 +25,12 @@ ghost use lib.IntN.{_+ℤ_, _-ℤ_, _*ℤ_};
 ghost use Rattle.rules.specs.Ring.{ring};
 ghost use Rattle.rules.specs.Good.{RunKnown, PieceKnown};
 ghost use Rattle.rules.specs.Verdict.{NONE};
-ghost use Rattle.decide.specs.Touch.{swing, across, onLine, within, onEdge, touch, touches, pointOf, motion, bandSpan, startPoint, over, place, meets, code};
+ghost use Rattle.decide.specs.Touch.{swing, across, onLine, within, onEdge, touch, touches, pointOf, motion, bandSpan, startPoint, over, place, contact, meets, code};
 ghost use Rattle.piece.specs.Numbers.{runOf, pieceOf};
 ghost use Rattle.piece.specs.Place.{whereOf};
 ghost use Rattle.piece.specs.Moving.{spanOf, Tame};
 ghost use Rattle.piece.specs.Steps.{CrossSteps};
-ghost use Rattle.piece.specs.Touch.{startOf, speedOf, fromOf, toOf, Ready, Flat, Standing, Level, AlongSteps, contact};
+ghost use Rattle.piece.specs.Touch.{startOf, speedOf, fromOf, toOf, Ready, Flat, Standing, Level, AlongSteps};
 
 // What a verdict is: clear, the mark of the first contact, or the refusal.
 pub enum Verdict {

@@ -3,13 +3,13 @@ ghost use mathlib.Core.Path.{_≡_};
 ghost use mathlib.Core.Bool.{_&&_, _||_};
 ghost use Prim.Native.Nat.{_<_};
 ghost use lib.IntN.{pos, _-ℤ_, _*ℤ_};
-ghost use lib.Signed.{ltZ, leZ};
+ghost use lib.Signed.{ltZ};
 ghost use lib.ListN.{length, getD};
 ghost use mir.Syntax.{w16};
 ghost use mir.Val.{SFits};
 ghost use Rattle.rules.specs.Reach.{Reach, Speed};
 ghost use Rattle.rules.specs.Side.{side};
-ghost use Rattle.decide.specs.Touch.{least, most, sameSide};
+ghost use Rattle.decide.specs.Touch.{least, most, ranged, sameSide};
 ghost use Rattle.piece.specs.Decide.{Decides};
 ghost use Rattle.piece.specs.Steps.{SideSteps, CrossSteps};
 
@@ -87,11 +87,11 @@ pub(crate) fn most(a: i64, b: i64) -> i64
     if a <= b { b } else { a }
 }
 
-// Whether two numbers are equal.
-pub(crate) fn level(u: i64, v: i64) -> bool
-    ensures { λ r. ⌜ r ≡ (leZ u v && leZ v u) ⌝ }
+// Whether z lies from a to b.
+pub(crate) fn ranged(a: i64, z: i64, b: i64) -> bool
+    ensures { λ r. ⌜ r ≡ ranged a z b ⌝ }
 {
-    u <= v && v <= u
+    a <= z && z <= b
 }
 
 // Whether two numbers are on the same side of zero.

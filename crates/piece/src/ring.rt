@@ -5,8 +5,8 @@ use crate::number::cross;
 use crate::number::either;
 use crate::number::least;
 use crate::number::less;
-use crate::number::level;
 use crate::number::most;
+use crate::number::ranged;
 use crate::number::same_side;
 use crate::number::side;
 ghost use mathlib.Core.Path.{_≡_};
@@ -54,11 +54,14 @@ pub(crate) fn wedge(l: &[i32], i: usize, k: usize) -> i64
     cross(x(l, i), y(l, i), x(l, k), y(l, k))
 }
 
+// Whether two corners are the same: numbers that are no less and no more are equal.
 pub(crate) fn equal(l: &[i32], i: usize, k: usize) -> bool
     requires { ⌜ Corner (now l) i × Corner (now l) k ⌝ }
     ensures { λ r. ⌜ r ≡ equal (ring (now (l .entry)) .at i) (ring (now (l .entry)) .at k) ⌝ }
 {
-    both(level(x(l, i), x(l, k)), level(y(l, i), y(l, k)))
+    let a = x(l, i);
+    let b = y(l, i);
+    both(ranged(a, x(l, k), a), ranged(b, y(l, k), b))
 }
 
 fn parted(a: i64, b: i64, c: i64, d: i64) -> bool

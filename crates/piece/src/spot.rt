@@ -3,6 +3,7 @@ use crate::good::check_footprint;
 use crate::number::least;
 use crate::number::less;
 use crate::number::most;
+use crate::number::ranged;
 use crate::number::side;
 use crate::reach::point_fault;
 use crate::ring::next;
@@ -20,7 +21,7 @@ ghost use Rattle.rules.specs.Refusal.{Passes};
 ghost use Rattle.rules.specs.Place.{Place, placeChecks};
 ghost use Rattle.refusal.specs.Said.{Finds};
 ghost use Rattle.rules.proofs.Crossing.{xor, crosses};
-ghost use Rattle.decide.specs.Touch.{ranged, isOn, place, over};
+ghost use Rattle.decide.specs.Touch.{isOn, place, over};
 ghost use Rattle.piece.specs.Steps.{SideSteps};
 ghost use Rattle.piece.specs.Shape.{Holds, Corner};
 ghost use Rattle.piece.specs.Place.{pt, ptOf, Near, whereOf};
@@ -34,13 +35,6 @@ pub(crate) enum Spot {
 struct Point {
     x: i64,
     y: i64,
-}
-
-// Whether z lies from a to b.
-fn ranged(a: i64, z: i64, b: i64) -> bool
-    ensures { λ r. ⌜ r ≡ ranged a z b ⌝ }
-{
-    a <= z && z <= b
 }
 
 // Whether p lies on the edge a b: its box is looked at before any product.

@@ -25,9 +25,9 @@ use Rattle.refusal.specs.Said.{Finds}
 use Rattle.refusal.specs.declared.Checked.{Checked}
 use Rattle.refusal.specs.declared.Checked.the-variants.{Good, Refused}
 use Rattle.refusal.specs.declared.Refusal.the-variants as refusal
-use Rattle.decide.specs.Touch.{place, code}
+use Rattle.decide.specs.Touch.{ranged, place, code}
 use Rattle.decide.proofs.Verdict.{verdict-right}
-use Rattle.decide.proofs.Place.{place-right}
+use Rattle.decide.proofs.Place.{range-yes, yes-range, place-right}
 use Rattle.piece.specs.declared.Placed.{Placed}
 use Rattle.piece.specs.declared.Placed.the-variants as placed
 use Rattle.piece.specs.Decide.{Decides, Seeks}
@@ -60,11 +60,8 @@ pub seeks : (Bad : ℕ → Type 0) (f : ℕ → Bool) (n : ℕ) → ((j : ℕ) �
 seeks Bad f n d = seeks-from Bad f n d 0 n (omega arith) (none-yet Bad)
 
 -- ---- numbers
-abbrev pub within : ℤ → ℤ → ℤ → Bool
-within low high z = leZ low z && leZ z high
-
-within-decides : (low high z : ℤ) → Decides (Between low high z) (within low high z)
-within-decides low high z = decides _ (within low high z) (λ e. let k = and-yes (leZ low z) (leZ z high) e in record { above = le-true _ _ (k .0); below = le-true _ _ (k .1) }) (λ b. and-both _ _ (true-le _ _ (b .above)) (true-le _ _ (b .below)))
+range-decides : (low high z : ℤ) → Decides (Between low high z) (ranged low z high)
+range-decides low high z = decides _ (ranged low z high) (λ e. let k = range-yes low z high e in record { above = k .0; below = k .1 }) (λ b. yes-range _ _ _ (b .above) (b .below))
 
 -- not so
 other : (P : Type 0) (t : Bool) → Decides P t → Decides (P → ⊥) (not t)
@@ -72,16 +69,16 @@ other P true h = λ f. f h
 other P false h = h
 
 abbrev pub reaches : ℤ → Bool
-reaches z = within (negsuc 16383) (pos 16384) z
+reaches z = ranged (negsuc 16383) z (pos 16384)
 
 abbrev pub speeds : ℤ → Bool
-speeds v = within (negsuc 254) (pos 255) v
+speeds v = ranged (negsuc 254) v (pos 255)
 
 reach-decides : (z : ℤ) → Decides (Reach z) (reaches z)
-reach-decides z = within-decides (negsuc 16383) (pos 16384) z
+reach-decides z = range-decides (negsuc 16383) (pos 16384) z
 
 speed-decides : (v : ℤ) → Decides (Speed v) (speeds v)
-speed-decides v = within-decides (negsuc 254) (pos 255) v
+speed-decides v = range-decides (negsuc 254) (pos 255) v
 
 -- ---- pairs of edges
 abbrev pub neighbours : ℕ → ℕ → ℕ → Bool

@@ -1,11 +1,12 @@
 -- `extent::put` puts a range. Assumes nothing.
 use mathlib.Core.Path.{_≡_, _∙_}
 use mir.Facts.{toZ-ofZ}
-use mir.Val.{toZ, ofZ}
+use mir.Val.{SFits, toZ, ofZ}
 use mir.Syntax.{w16, w64}
 use Rattle.whole.proofs.Range.{read}
 use Rattle.decide.specs.Touch.{least, most}
-use Rattle.piece.proofs.Table.{least-narrow, most-narrow, put-range}
+use Rattle.piece.proofs.Table.{put-range}
+use Rattle.decide.proofs.Place.{least-of, most-of}
 use borrow.Author.Needs.{needs}
 use Rattle.piece.proofs.extent.put.Statement.{statement}
 use Rattle.piece.proofs.extent.put.Tie as tie
@@ -21,7 +22,7 @@ least-requires : tie.Need-least-requires
 least-requires c κs = search needs
 
 narrow-requires : tie.Need-narrow-requires
-narrow-requires c κs = let s = c .before in rw (read w64 (c .least .ok) (c .least .ensures), toZ-ofZ (s .fits .a), toZ-ofZ (s .fits .b)) (least-narrow _ _ (s .pre .1 .0) (s .pre .1 .1))
+narrow-requires c κs = let s = c .before in rw (read w64 (c .least .ok) (c .least .ensures), toZ-ofZ (s .fits .a), toZ-ofZ (s .fits .b)) (least-of (SFits w16) _ _ (s .pre .1 .0) (s .pre .1 .1))
 
 mul-t : tie.Need-mul-t
 mul-t c = search needs
@@ -33,7 +34,7 @@ most-requires : tie.Need-most-requires
 most-requires c κs = search needs
 
 narrow-requires-2 : tie.Need-narrow-requires-2
-narrow-requires-2 c κs = let s = c .before .before .before in rw (read w64 (c .most .ok) (c .most .ensures), toZ-ofZ (s .fits .a), toZ-ofZ (s .fits .b)) (most-narrow _ _ (s .pre .1 .0) (s .pre .1 .1))
+narrow-requires-2 c κs = let s = c .before .before .before in rw (read w64 (c .most .ok) (c .most .ensures), toZ-ofZ (s .fits .a), toZ-ofZ (s .fits .b)) (most-of (SFits w16) _ _ (s .pre .1 .0) (s .pre .1 .1))
 
 add-t7 : tie.Need-add-t7
 add-t7 c = search needs

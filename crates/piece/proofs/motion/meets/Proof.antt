@@ -5,9 +5,9 @@ use borrow.Author.Needs.{needs}
 use borrow.Author.Tests.{not-true, not-false}
 use Rattle.rules.specs.Ring.{ring}
 use Rattle.decide.specs.Span as decide
-use Rattle.decide.specs.Touch.{over, place, startPoint}
+use Rattle.decide.specs.Touch.{over, place, contact, startPoint}
 use Rattle.piece.specs.Moving.{spanOf}
-use Rattle.piece.specs.Touch.{startOf, speedOf, contact}
+use Rattle.piece.specs.Touch.{startOf, speedOf}
 use Rattle.piece.proofs.Touch.{meets-none, meets-here, meets-later}
 use Rattle.piece.proofs.motion.meets.Statement.{statement}
 use Rattle.piece.proofs.motion.meets.Tie as tie

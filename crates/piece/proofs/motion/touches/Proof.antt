@@ -9,21 +9,19 @@ use lib.ListN.{length}
 use mir.Syntax.{w64}
 use mir.Val.{toZ, ofZ}
 use Rattle.whole.proofs.Range.{read}
-use Rattle.rules.specs.Ring.{Pt, ring, next, from, to}
+use Rattle.rules.specs.Ring.{ring, next, from, to}
 use Rattle.rules.proofs.Ring.{next-inner, next-below}
 use Rattle.decide.specs.Touch.{across, touch, touches}
 use Rattle.piece.specs.declared.motion.Motion.{Motion}
 use Rattle.piece.specs.declared.span.Span.{Span}
 use Rattle.piece.specs.Moving.{spanOf}
+use Rattle.piece.specs.Place.{pt}
 use Rattle.piece.specs.Steps.{CrossSteps}
 use Rattle.piece.specs.Touch.{startOf, speedOf, Close, Ready, Standing}
 use Rattle.piece.proofs.Steps.{reach-abs}
 use Rattle.piece.proofs.Touch.{across-steps}
 use Rattle.piece.proofs.motion.touches.Statement.{statement}
 use Rattle.piece.proofs.motion.touches.Tie as tie
-
-abbrev pt : ℤ → ℤ → Pt
-pt x y = record { x = x; y = y }
 
 -- corner i, and its side
 record At (l : List ℤ) (m : Motion) (i : ℕ) (ax ay c : ℤ) : Type 0 where

@@ -1,7 +1,7 @@
--- `spot::ranged` is what it says. Assumes nothing.
+-- `number::ranged` is what it says. Assumes nothing.
 use mir.Facts.{toZ-ofZ}
-use Rattle.piece.proofs.spot.ranged.Statement.{statement}
-use Rattle.piece.proofs.spot.ranged.Tie as tie
+use Rattle.piece.proofs.number.ranged.Statement.{statement}
+use Rattle.piece.proofs.number.ranged.Tie as tie
 
 returns : tie.Need-returns
 returns c = let e = rw (toZ-ofZ (c .before .fits .a), toZ-ofZ (c .before .fits .z)) at (c .if1 .taken) in rw (toZ-ofZ (c .before .fits .z), toZ-ofZ (c .before .fits .b), e)
