@@ -8,6 +8,7 @@ use lib.IntN.{ℤ}
 use lib.Signed.{leZ, mag}
 use mir.Syntax.{Width}
 use mir.Val.{hbits, toZ, ofZ}
+use borrow.Author.Count.{below-none, below-more}
 use borrow.Author.Tests.{not-true, not-false}
 use Rattle.whole.proofs.Order.{clash, ℕ-or}
 use Rattle.whole.proofs.Flag.{le-true, le-false}
@@ -55,10 +56,10 @@ abbrev pub Below : (ℕ → Type 0) → ℕ → Type 0
 Below Bad k = (j : ℕ) → j < k → Bad j → ⊥
 
 pub none-yet : (Bad : ℕ → Type 0) → Below Bad 0
-none-yet Bad j l b = omega arith
+none-yet Bad = below-none (λ j. Bad j → ⊥)
 
 pub one-more : (Bad : ℕ → Type 0) (k : ℕ) → Below Bad k → (Bad k → ⊥) → Below Bad (k + 1)
-one-more Bad k h f j l b = ⊎-elim (λ (i : k ≤ j). let e : j ≡ k = omega arith in f (subst Bad e b)) (λ (i : j < k). h j i b) (ℕ-or k j)
+one-more Bad = below-more (λ j. Bad j → ⊥)
 
 pub stop : (Bad : ℕ → Type 0) (n k : ℕ) → Below Bad k → Bad k → Seeks Bad n k
 stop Bad n k h b = record { before = λ j l i. h j l; found = λ l. b }

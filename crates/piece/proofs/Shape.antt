@@ -3,18 +3,18 @@ use mathlib.Core.Path.{_≡_, refl, sym, _∙_}
 use mathlib.Core.Bool.{Bool, true, false, not, _&&_, _||_}
 use mathlib.Core.Logic.{_⊎_, inl, inr, ⊎-elim}
 use lib.IntN.{ℤ, pos}
-use lib.Signed.{_<ℤ_, leZ, ltZ, ≤ℤ-refl}
+use lib.Signed.{_<ℤ_, ltZ, ≤ℤ-refl}
 use Rattle.whole.proofs.Order.{antisym}
 use Rattle.whole.proofs.Polynomial.{vars6, poly, by-ring}
-use Rattle.whole.proofs.Flag.{false-true, or-yes, or-left, or-right, and-yes, and-both, lt-true, le-true, true-lt, true-le}
+use Rattle.whole.proofs.Flag.{false-true, or-yes, or-left, or-right, and-yes, and-both, lt-true, true-lt}
 use Rattle.rules.specs.Ring.{Pt, On, Share}
 use Rattle.rules.specs.Side.{side}
 use Rattle.rules.proofs.Segment.{no-line, Apart, right, left, right′, left′, below, above, before, behind, Sep, ahead, after, by-x, by-y, by-edge, by-way}
 use Rattle.rules.proofs.On.{on-or-off, off-not-on}
 use Rattle.rules.proofs.Share.{pt-eq, share-or-apart, apart-not-share}
-use Rattle.decide.specs.Touch.{least, most, sameSide}
+use Rattle.decide.specs.Touch.{least, most, ranged, sameSide}
 use Rattle.decide.proofs.Touch.{same-yes}
-use Rattle.decide.proofs.Place.{least-low, most-high, least-of, most-of}
+use Rattle.decide.proofs.Place.{least-low, most-high, least-of, most-of, range-yes, yes-range}
 use Rattle.piece.specs.Decide.{Decides}
 use Rattle.piece.specs.Shape.{equal, parted, boxes, aside, shares, bends}
 
@@ -85,14 +85,14 @@ shares-decides a b c d =
 pub equal-decides : (a b : Pt) → Decides (a ≡ b) (equal a b)
 equal-decides a b = decides (a ≡ b) (equal a b) (λ e. yes (and-yes _ _ e)) (λ e. rw e (and-both _ _ (self (b .x)) (self (b .y))))
   where
-    level : (u v : ℤ) → (leZ u v && leZ v u) ≡ true → u ≡ v
-    level u v e = let h = and-yes (leZ u v) (leZ v u) e in antisym u v (le-true u v (h .0)) (le-true v u (h .1))
+    level : (u v : ℤ) → ranged u v u ≡ true → u ≡ v
+    level u v e = let h = range-yes u v u e in antisym u v (h .0) (h .1)
 
-    yes : ((leZ (a .x) (b .x) && leZ (b .x) (a .x)) ≡ true) × ((leZ (a .y) (b .y) && leZ (b .y) (a .y)) ≡ true) → a ≡ b
+    yes : (ranged (a .x) (b .x) (a .x) ≡ true) × (ranged (a .y) (b .y) (a .y) ≡ true) → a ≡ b
     yes h = pt-eq a b (level _ _ (h .0)) (level _ _ (h .1))
 
-    self : (u : ℤ) → (leZ u u && leZ u u) ≡ true
-    self u = let e = true-le u u (≤ℤ-refl u) in and-both _ _ e e
+    self : (u : ℤ) → ranged u u u ≡ true
+    self u = yes-range u u u (≤ℤ-refl u) (≤ℤ-refl u)
 
 -- ---- a point and an edge
 no-side : (p a b : Pt) → aside p p a b ≡ false

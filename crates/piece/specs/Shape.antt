@@ -7,13 +7,13 @@ use Prim.Native.Nat.{ℕ, _+_, _*_, _-_, _≤_, _<_}
 use lib.Dec.{eqb, ltb}
 use lib.IntN.{ℤ, pos}
 use lib.ListN.{length, getD}
-use lib.Signed.{leZ, ltZ}
+use lib.Signed.{ltZ}
 use Rattle.rules.specs.Reach.{Reach, Corners}
 use Rattle.rules.specs.Ring.{Pt, Ring, ring, from, to, On}
 use Rattle.rules.specs.Refusal.{First}
 use Rattle.rules.specs.Good.{Same, FirstMeet, Meet, area}
 use Rattle.rules.specs.Side.{o}
-use Rattle.decide.specs.Touch.{least, most, sameSide}
+use Rattle.decide.specs.Touch.{least, most, ranged, sameSide}
 use Rattle.piece.specs.Decide.{Seeks}
 use Rattle.piece.specs.Table.{AllBoxed}
 use Rattle.piece.specs.declared.good.Outline.{Outline}
@@ -34,7 +34,7 @@ pub record Corner (l : List ℤ) (i : ℕ) : Type 0 where
 
 -- ---- tests
 abbrev pub equal : Pt → Pt → Bool
-equal a b = (leZ (a .x) (b .x) && leZ (b .x) (a .x)) && (leZ (a .y) (b .y) && leZ (b .y) (a .y))
+equal a b = ranged (a .x) (b .x) (a .x) && ranged (a .y) (b .y) (a .y)
 
 -- two ranges have no number in common
 abbrev pub parted : ℤ → ℤ → ℤ → ℤ → Bool
