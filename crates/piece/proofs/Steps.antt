@@ -11,6 +11,9 @@ use Rattle.rules.specs.Ring.{Pt, ring}
 use Rattle.piece.specs.Shape.{Corner}
 use Rattle.piece.specs.Steps.{SideSteps, CrossSteps}
 
+pub fit : (z : ℤ) → natAbs z ≤ 4294967296 → SFits w64 z
+fit z h = fits w64 z (omega arith)
+
 pub reach-abs : (z : ℤ) → Reach z → natAbs z ≤ 16384
 reach-abs z h = abs-by 16384 z (h .above) (h .below)
 
@@ -25,7 +28,7 @@ pub scaled-wide : (d z : ℤ) → natAbs d ≤ 510 → Reach z → Wide (d *ℤ 
 scaled-wide d z h k = omega (arith, abs-mul-le d z 510 16384 h (reach-abs z k))
 
 pub scaled-fits : (d z : ℤ) → natAbs d ≤ 510 → Reach z → SFits w64 (d *ℤ z)
-scaled-fits d z h k = fits w64 (d *ℤ z) (omega (arith, scaled-wide d z h k))
+scaled-fits d z h k = fit (d *ℤ z) (omega (arith, scaled-wide d z h k))
 
 -- x v − y u
 pub cross-most : (A B : ℕ) (x y u v : ℤ) → natAbs x ≤ A → natAbs y ≤ A → natAbs u ≤ B → natAbs v ≤ B → natAbs (x *ℤ v -ℤ y *ℤ u) ≤ A * B + A * B
@@ -35,18 +38,15 @@ cross-most A B x y u v h i j k = omega (arith, abs-sub (x *ℤ v) (y *ℤ u), ab
 abbrev pub Broad : ℤ → Type 0
 Broad z = natAbs z ≤ 50135040
 
-broad : (z : ℤ) → Broad z → SFits w64 z
-broad z h = fits w64 z (omega arith)
-
-product : (x y : ℤ) → Broad x → Broad y → SFits w64 (x *ℤ y)
+pub product : (x y : ℤ) → Broad x → Broad y → SFits w64 (x *ℤ y)
 product x y h k = fits w64 (x *ℤ y) (omega (arith, abs-mul-le x y 50135040 50135040 h k))
 
 pub cross-steps : (x y u v : ℤ) → Broad x → Broad y → Broad u → Broad v → CrossSteps x y u v
 cross-steps x y u v h i j k = record {
-  x-fits = broad x h;
-  y-fits = broad y i;
-  u-fits = broad u j;
-  v-fits = broad v k;
+  x-fits = fit x (omega arith);
+  y-fits = fit y (omega arith);
+  u-fits = fit u (omega arith);
+  v-fits = fit v (omega arith);
   first = product x v h k;
   second = product y u i j;
   all = fits w64 _ (omega (arith, cross-most 50135040 50135040 x y u v h i j k));

@@ -8,7 +8,7 @@ use lib.IntN.{ℤ, pos, negsuc, negℤ, natAbs, _+ℤ_, _-ℤ_, _*ℤ_}
 use lib.ListN.{length}
 use mir.Syntax.{w32, w64}
 use mir.Val.{SFits, toZ, ofZ}
-use Rattle.whole.proofs.Range.{fits, abs-by, abs-add, abs-sub, abs-mul-le, abs-neg}
+use Rattle.whole.proofs.Range.{abs-by, abs-add, abs-sub, abs-mul-le, abs-neg}
 use Rattle.rules.specs.Reach.{Speed, Run, Piece}
 use Rattle.rules.specs.Ring.{Pt, Ring}
 use Rattle.rules.specs.Good.{RunKnown, PieceKnown}
@@ -20,18 +20,12 @@ use Rattle.decide.specs.Touch.{least, most, swing, across, sameSide, onLine, wi
 use Rattle.piece.specs.Moving.{Tame, Small, Bounds, Slope}
 use Rattle.piece.specs.Touch.{Close, Slow, Ready, Flat, Standing, Level, AlongSteps}
 use Rattle.piece.specs.Steps.{CrossSteps, SideSteps}
-use Rattle.piece.proofs.Steps.{reach-abs, cross-most, cross-steps}
+use Rattle.piece.proofs.Steps.{fit, reach-abs, product, cross-most, cross-steps}
 use Rattle.piece.proofs.Moving.{tame-clip, wider, small-clip, back}
 
 -- numbers within reach, and their differences
 diff : (a b : ℤ) → natAbs a ≤ 16384 → natAbs b ≤ 16384 → natAbs (a -ℤ b) ≤ 32768
 diff a b h k = omega (arith, abs-sub a b)
-
-fit : (z : ℤ) → natAbs z ≤ 4294967296 → SFits w64 z
-fit z h = fits w64 z (omega arith)
-
-fit-mul : (x y : ℤ) → natAbs x ≤ 32768 → natAbs y ≤ 32768 → SFits w64 (x *ℤ y)
-fit-mul x y h k = fit (x *ℤ y) (omega (arith, abs-mul-le x y 32768 32768 h k))
 
 pub across-steps : (p w : Pt) (x y : ℤ) → Close p → Slow w → natAbs x ≤ 16384 → natAbs y ≤ 16384 → CrossSteps (w .x) (w .y) (x -ℤ p .x) (y -ℤ p .y)
 across-steps p w x y h k i j = cross-steps _ _ _ _ (omega (arith, k .x)) (omega (arith, k .y)) (omega (arith, diff x (p .x) i (h .x))) (omega (arith, diff y (p .y) j (h .y)))
@@ -177,8 +171,8 @@ module _ (d p n w : ℤ) (h : natAbs d ≤ 510) (i : natAbs p ≤ 16384) (j : na
 
   pub along-steps : AlongSteps d p n w
   along-steps = record {
-    first = fit-mul d p (omega arith) (omega arith);
-    second = fit-mul n w j (omega arith);
+    first = product d p (omega arith) (omega arith);
+    second = product n w (omega arith) (omega arith);
     all = fit _ (omega (arith, along-most));
   }
 
