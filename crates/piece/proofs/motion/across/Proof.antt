@@ -1,6 +1,7 @@
 -- `motion::across` is across. Assumes nothing.
+use mathlib.Core.Path.{_∙_}
 use mir.Syntax.{w64}
-use Rattle.whole.proofs.Range.{got}
+use Rattle.whole.proofs.Range.{read}
 use borrow.Author.Needs.{needs}
 use Rattle.piece.proofs.motion.across.Statement.{statement}
 use Rattle.piece.proofs.motion.across.Tie as tie
@@ -15,7 +16,7 @@ cross-requires : tie.Need-cross-requires
 cross-requires c κs = search needs
 
 returns : tie.Need-returns
-returns c = got w64 (c .cross .ok) (c .cross .ensures) (search needs)
+returns c = read w64 (c .cross .ok) (c .cross .ensures ∙ search needs)
 
 pub across-spec : {M : Type 1} → statement M
 across-spec = tie.close (tie.spec sub-cross sub-cross-2 cross-requires returns)

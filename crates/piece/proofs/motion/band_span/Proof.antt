@@ -8,7 +8,7 @@ use lib.IntN.{pos, negℤ, natAbs, _-ℤ_}
 use mir.Facts.{toZ-pos}
 use mir.Syntax.{w64}
 use mir.Val.{toZ, ofZ}
-use Rattle.whole.proofs.Range.{got}
+use Rattle.whole.proofs.Range.{read}
 use Rattle.rules.specs.Reach.{Run, Piece}
 use Rattle.decide.specs.Span as decide
 use Rattle.decide.specs.Touch.{bandSpan}
@@ -27,13 +27,13 @@ K b = pieceOf (b .args .band) []
 
 -- the differences, read back
 rise : (c : tie.After-gap) → let b = c .before .before .before in toZ w64 (ofZ w64 (c .gap .result)) ≡ climb (R b) (K b)
-rise c = got w64 (c .gap .ok) (c .gap .ensures) (search needs)
+rise c = read w64 (c .gap .ok) (c .gap .ensures ∙ search needs)
 
 above : (c : tie.After-gap2) → let a = c .before .before .before .before .before .before .before .args in toZ w64 (ofZ w64 (c .gap2 .result)) ≡ a .run .z -ℤ a .band .bottom
-above c = got w64 (c .gap2 .ok) (c .gap2 .ensures) (search needs)
+above c = read w64 (c .gap2 .ok) (c .gap2 .ensures ∙ search needs)
 
 under : (c : tie.After-gap3) → let a = c .before .before .before .before .before .before .before .before .before .before .before .args in toZ w64 (ofZ w64 (c .gap3 .result)) ≡ a .band .top -ℤ a .run .z
-under c = got w64 (c .gap3 .ok) (c .gap3 .ensures) (search needs)
+under c = read w64 (c .gap3 .ok) (c .gap3 .ensures ∙ search needs)
 
 -- the run's length
 long : (b : tie.Start) → toZ w64 (b .args .run .ticks) ≡ pos (b .args .run .ticks)

@@ -1,11 +1,11 @@
 -- `motion::begins` places the point. Assumes nothing.
-use mathlib.Core.Path.{_≡_}
+use mathlib.Core.Path.{_≡_, _∙_}
 use lib.IntN.{_+ℤ_, _*ℤ_}
 use native.Mathlib.Omega.{arith}
 use borrow.Author.Needs.{needs}
 use mir.Syntax.{w64}
 use mir.Val.{toZ, ofZ}
-use Rattle.whole.proofs.Range.{got, field}
+use Rattle.whole.proofs.Range.{read, field}
 use Rattle.piece.proofs.Touch.{along-steps, along-most}
 use Rattle.piece.proofs.motion.begins.Statement.{statement}
 use Rattle.piece.proofs.motion.begins.Tie as tie
@@ -28,10 +28,10 @@ along-requires-2 c κs =
 
 -- the point's coordinates
 the-x : (c : tie.After-along) → let a = c .before .before .before .before .before .args in toZ w64 (ofZ w64 (c .along .result)) ≡ a .s .«low_d» *ℤ a .m .x +ℤ a .s .«low_n» *ℤ a .m .u
-the-x c = got w64 (c .along .ok) (c .along .ensures) (search needs)
+the-x c = read w64 (c .along .ok) (c .along .ensures ∙ search needs)
 
 the-y : (c : tie.After-along2) → let a = c .before .before .before .before .before .before .before .before .before .before .args in toZ w64 (ofZ w64 (c .along2 .result)) ≡ a .s .«low_d» *ℤ a .m .y +ℤ a .s .«low_n» *ℤ a .m .v
-the-y c = got w64 (c .along2 .ok) (c .along2 .ensures) (search needs)
+the-y c = read w64 (c .along2 .ok) (c .along2 .ensures ∙ search needs)
 
 place-at-requires : tie.Need-place-at-requires
 place-at-requires c κs =

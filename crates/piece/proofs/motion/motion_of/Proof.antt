@@ -1,7 +1,8 @@
 -- `motion::motion_of` is the point and its motion. Assumes nothing.
+use mathlib.Core.Path.{_∙_}
 use borrow.Author.Needs.{needs}
 use mir.Syntax.{w64}
-use Rattle.whole.proofs.Range.{got}
+use Rattle.whole.proofs.Range.{read}
 use Rattle.rules.proofs.Share.{pt-eq}
 use Rattle.piece.proofs.motion.motion_of.Statement.{statement}
 use Rattle.piece.proofs.motion.motion_of.Tie as tie
@@ -24,8 +25,8 @@ returns c =
     let y = c .before .before .before .before .before .before .wide2 in
     let u = c .before .before .before .gap in
     let v = c .gap2 in (
-      pt-eq _ _ (got w64 (x .ok) (x .ensures) (search needs)) (got w64 (y .ok) (y .ensures) (search needs)),
-      pt-eq _ _ (got w64 (u .ok) (u .ensures) (search needs)) (got w64 (v .ok) (v .ensures) (search needs)),
+      pt-eq _ _ (read w64 (x .ok) (x .ensures ∙ search needs)) (read w64 (y .ok) (y .ensures ∙ search needs)),
+      pt-eq _ _ (read w64 (u .ok) (u .ensures ∙ search needs)) (read w64 (v .ok) (v .ensures ∙ search needs)),
     )
 
 pub motion-of-spec : {M : Type 1} → statement M

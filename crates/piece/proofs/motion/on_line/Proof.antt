@@ -6,7 +6,7 @@ use lib.IntN.{ℤ, negℤ, natAbs}
 use borrow.Author.Needs.{needs}
 use mir.Syntax.{w64}
 use mir.Val.{toZ, ofZ}
-use Rattle.whole.proofs.Range.{read, got}
+use Rattle.whole.proofs.Range.{read}
 use Rattle.rules.specs.Side.{o}
 use Rattle.decide.specs.Span as decide
 use Rattle.decide.specs.Touch.{swing, onLine}
@@ -39,7 +39,7 @@ side-requires c κs = let h = line-steps _ _ _ _ _ (c .before .before .before .b
 
 -- the two, read back
 the-side : (c : tie.After-side) → toZ w64 (ofZ w64 (c .side .result)) ≡ α (start c)
-the-side c = got w64 (c .side .ok) (c .side .ensures) (search needs)
+the-side c = read w64 (c .side .ok) (c .side .ensures ∙ search needs)
 
 swing-requires : tie.Need-swing-requires
 swing-requires c κs = swing-steps _ _ _ _ _ (start c .pre)

@@ -1,6 +1,7 @@
 -- `number::side` is side. Assumes nothing.
+use mathlib.Core.Path.{_∙_}
 use mir.Syntax.{w64}
-use Rattle.whole.proofs.Range.{got}
+use Rattle.whole.proofs.Range.{read}
 use borrow.Author.Needs.{needs}
 use Rattle.piece.proofs.number.side.Statement.{statement}
 use Rattle.piece.proofs.number.side.Tie as tie
@@ -21,7 +22,7 @@ cross-requires : tie.Need-cross-requires
 cross-requires c κs = search needs
 
 returns : tie.Need-returns
-returns c = got w64 (c .cross .ok) (c .cross .ensures) (search needs)
+returns c = read w64 (c .cross .ok) (c .cross .ensures ∙ search needs)
 
 pub side-spec : {M : Type 1} → statement M
 side-spec =

@@ -1,12 +1,12 @@
 -- `span::first` is first. Assumes nothing.
-use mathlib.Core.Path.{_≡_}
+use mathlib.Core.Path.{_≡_, _∙_}
 use native.Mathlib.Omega.{arith}
 use borrow.Author.Needs.{needs}
 use lib.IntN.{pos, _*ℤ_}
 use lib.Signed.{quotZ}
 use mir.Syntax.{w64}
 use mir.Val.{toZ, ofZ}
-use Rattle.whole.proofs.Range.{got}
+use Rattle.whole.proofs.Range.{read}
 use Rattle.piece.specs.Moving.{spanOf}
 use Rattle.piece.proofs.Moving.{mark-sign, mark-most, mark-steps}
 use Rattle.piece.proofs.span.first.Statement.{statement}
@@ -17,7 +17,7 @@ mark-requires c κs = let h = mark-steps _ (c .before .before .pre .0) (c .befor
 
 -- the mark, read back
 the-mark : (c : tie.After-mark) → let s = c .before .before .before .args .s in toZ w64 (ofZ w64 (c .mark .result)) ≡ quotZ (pos 256 *ℤ s .«low_n») (s .«low_d»)
-the-mark c = got w64 (c .mark .ok) (c .mark .ensures) (search needs)
+the-mark c = read w64 (c .mark .ok) (c .mark .ensures ∙ search needs)
 
 cast-result : tie.Need-cast-result
 cast-result c =
