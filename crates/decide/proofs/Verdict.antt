@@ -17,7 +17,6 @@ use Rattle.rules.specs.Contact.{Moment, InBand, Contact}
 use Rattle.rules.specs.Verdict.{Mark, Verdict, NONE, answer}
 use Rattle.rules.proofs.Place.{bit, place-parity, zero-one}
 use Rattle.rules.proofs.Verdict.{mark-answers}
-use Rattle.rules.proofs.Contact.{place-relative, relative-place}
 use Rattle.decide.specs.Span.{Span, ticks, some, first}
 use Rattle.decide.specs.Touch.{touches, place, pointOf, motion, bandSpan, startPoint, over, contact, meets, code}
 use Rattle.decide.proofs.Span.{Proper, In, begin, Clips, clips, turned, both, begins, no-moment, first-mark, between}
@@ -25,6 +24,7 @@ use Rattle.decide.proofs.Touch.{at, diff-le, le-diff}
 use Rattle.decide.proofs.Place.{place-right}
 use Rattle.decide.proofs.First.{FirstAt, never, when, Early, below-none, OnFirst, first-touches}
 use Rattle.decide.proofs.Motion.{parity-or-touch}
+use Rattle.decide.proofs.Relative.{place-relative, relative-place}
 
 -- ---- the band
 bottom-eq : (d n b u z v : ℤ) → (z -ℤ b) *ℤ d +ℤ (v -ℤ u) *ℤ n ≡ (d *ℤ z +ℤ n *ℤ v) -ℤ (d *ℤ b +ℤ n *ℤ u)

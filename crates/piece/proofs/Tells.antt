@@ -2,11 +2,11 @@
 use mathlib.Core.Path.{_≡_, refl, ap}
 use Rattle.rules.specs.Reach.{Run, Piece}
 use Rattle.rules.specs.Verdict.{Answer, clear, blocked, verdictChecks}
-use Rattle.rules.proofs.Checks.{never-both, one-fault}
+use Rattle.rules.proofs.Checks.{never-both}
 use Rattle.rules.proofs.Good.{sharp-verdict}
 use Rattle.rules.proofs.Verdict.{one-verdict}
 use Rattle.refusal.specs.Said.{said}
-use Rattle.refusal.proofs.Unique.{said-one}
+use Rattle.refusal.proofs.Unique.{refused-one}
 use Rattle.piece.specs.declared.motion.Verdict.{Verdict}
 use Rattle.piece.specs.declared.motion.Verdict.the-variants.{Clear, Mark, Refused}
 use Rattle.piece.specs.Tells.{Tells}
@@ -27,4 +27,4 @@ module _ (r : Run) (k : Piece) where
   one-told (Mark m) (Refused y) h g = absurd (never-both (verdictChecks r k) (sharp-verdict r k) (said y) (h .0) g)
   one-told (Refused x) Clear h g = absurd (never-both (verdictChecks r k) (sharp-verdict r k) (said x) (g .0) h)
   one-told (Refused x) (Mark n) h g = absurd (never-both (verdictChecks r k) (sharp-verdict r k) (said x) (g .0) h)
-  one-told (Refused x) (Refused y) h g = ap Refused (said-one x y (one-fault (verdictChecks r k) (sharp-verdict r k) (said x) (said y) h g))
+  one-told (Refused x) (Refused y) h g = ap Refused (refused-one (verdictChecks r k) (sharp-verdict r k) x y h g)

@@ -5,12 +5,12 @@ use lib.IntN.{ℤ}
 use Rattle.rules.specs.Ring.{Pt, ring}
 use Rattle.rules.specs.Good.{runChecks, pieceChecks}
 use Rattle.rules.specs.Place.{Where, on, inside, outside, placeChecks}
-use Rattle.rules.proofs.Checks.{never-both, one-fault}
+use Rattle.rules.proofs.Checks.{never-both}
 use Rattle.rules.proofs.Good.{sharp-run, sharp-piece, sharp-place}
 use Rattle.rules.proofs.Place.{one-place}
 use Rattle.refusal.specs.Said.{said, Finds}
 use Rattle.refusal.specs.declared.Checked.{Checked}
-use Rattle.refusal.proofs.Unique.{said-one, finds-one}
+use Rattle.refusal.proofs.Unique.{refused-one, finds-one}
 use Rattle.piece.specs.declared.Run.{Run}
 use Rattle.piece.specs.declared.Band.{Band}
 use Rattle.piece.specs.declared.Placed.{Placed}
@@ -47,4 +47,4 @@ place-one p l Outside (Refused s) h k = absurd (never-both (placeChecks p l) (sh
 place-one p l (Refused r) On h k = absurd (never-both (placeChecks p l) (sharp-place p l) (said r) (k .0) h)
 place-one p l (Refused r) Inside h k = absurd (never-both (placeChecks p l) (sharp-place p l) (said r) (k .0) h)
 place-one p l (Refused r) Outside h k = absurd (never-both (placeChecks p l) (sharp-place p l) (said r) (k .0) h)
-place-one p l (Refused r) (Refused s) h k = ap Refused (said-one r s (one-fault (placeChecks p l) (sharp-place p l) (said r) (said s) h k))
+place-one p l (Refused r) (Refused s) h k = ap Refused (refused-one (placeChecks p l) (sharp-place p l) r s h k)

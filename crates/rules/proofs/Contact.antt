@@ -1,19 +1,19 @@
--- Contact does not depend on how a moment is written, and is a question of the relative motion alone. Assumes nothing.
+-- Contact does not depend on how a moment is written. Assumes nothing.
 use mathlib.Core.Path.{_≡_, sym, subst, _∙_}
 use mathlib.Core.HLevel.{isProp→PathP}
 use mathlib.Core.Logic.{inl, inr, ⊎-elim}
 use lib.Dec.{T-prop}
-use lib.IntN.{ℤ, pos, _+ℤ_, _-ℤ_, _*ℤ_, *ℤ-comm}
+use lib.IntN.{ℤ, pos, _+ℤ_, _*ℤ_, *ℤ-comm}
 use lib.Signed.{_≤ℤ_, _<ℤ_, ltZ}
 use Rattle.whole.specs.Fraction.{Frac, _≈_, whole}
 use Rattle.whole.proofs.Fraction.{scaled, trans}
 use Rattle.whole.proofs.Order.{eq-le, mul-mono, cancel, lt-le}
-use Rattle.whole.proofs.Polynomial.{vars4, vars5, poly, num-val, by-ring}
+use Rattle.whole.proofs.Polynomial.{vars5, poly, num-val, by-ring}
 use Rattle.rules.specs.Reach.{Run, Piece}
-use Rattle.rules.specs.Ring.{Pt, times, Ring}
+use Rattle.rules.specs.Ring.{Pt, Ring}
 use Rattle.rules.specs.Ring as corners
 use Rattle.rules.specs.Place.{Where, on, inside, Place}
-use Rattle.rules.specs.Contact.{Moment, along, pointAt, ringAt, Contact}
+use Rattle.rules.specs.Contact.{Moment, pointAt, ringAt, Contact}
 use Rattle.rules.proofs.On.{move, origin}
 use Rattle.rules.proofs.Share.{pt-eq}
 use Rattle.rules.proofs.Place.{moved, place-moved, place-unmoved}
@@ -73,37 +73,3 @@ same-contact r k s t e h = contact-unscaled r k (s .den) (s .some) t (subst (λ 
 
 pub same-moment : (r : Run) (s t : Frac) → s ≈ t → Moment r s → Moment r t
 same-moment r s t e h = record { from = trans (whole (pos 0)) s t (h .from) (eq-le _ _ e); to = trans t s (whole (pos (r .ticks))) (eq-le _ _ (sym e)) (h .to) }
-
--- ---- relative motion: the footprint stands, the point runs at the difference of the velocities
-abbrev pub standing : ℤ → Ring → Ring
-standing d r = record { size = r .size; at = λ i. times d (r .at i) }
-
-abbrev pub relative : Run → Piece → Frac → Pt
-relative r k t = record { x = along t (r .start .x) (r .speed .x -ℤ k .speed .x); y = along t (r .start .y) (r .speed .y -ℤ k .speed .y) }
-
-drift : Piece → Frac → Pt
-drift k t = record { x = t .num *ℤ k .speed .x; y = t .num *ℤ k .speed .y }
-
-run-drift : (d n p v u : ℤ) → pos 1 *ℤ (d *ℤ p +ℤ n *ℤ (v -ℤ u)) +ℤ n *ℤ u ≡ d *ℤ p +ℤ n *ℤ v
-run-drift = vars5 _ λ ρ. simp (poly, num-val ρ) (by-ring _ _ _ tt)
-
-corner-drift : (d n c u : ℤ) → pos 1 *ℤ (d *ℤ c) +ℤ n *ℤ u ≡ d *ℤ c +ℤ n *ℤ u
-corner-drift = vars4 _ λ ρ. simp (poly, num-val ρ) (by-ring _ _ _ tt)
-
-one : pos 0 <ℤ pos 1
-one = record { lt = tt }
-
-module _ (r : Run) (k : Piece) (t : Frac) where
-  point-relative : move (pos 1) (drift k t) (relative r k t) ≡ pointAt r t
-  unfolding drift
-  point-relative = pt-eq _ _ (run-drift (t .den) (t .num) (r .start .x) (r .speed .x) (k .speed .x)) (run-drift (t .den) (t .num) (r .start .y) (r .speed .y) (k .speed .y))
-
-  ring-relative : moved (pos 1) (drift k t) one (standing (t .den) (corners.ring (k .corners))) ≡ ringAt k t
-  unfolding drift
-  ring-relative = λ j. record { size = ringAt k t .size; at = λ i. pt-eq (move (pos 1) (drift k t) (times (t .den) (corners.ring (k .corners) .at i))) (ringAt k t .at i) (corner-drift (t .den) (t .num) (corners.ring (k .corners) .at i .x) (k .speed .x)) (corner-drift (t .den) (t .num) (corners.ring (k .corners) .at i .y) (k .speed .y)) j }
-
-  pub place-relative : (w : Where) → Place (standing (t .den) (corners.ring (k .corners))) (relative r k t) w → Place (ringAt k t) (pointAt r t) w
-  place-relative w h = subst (λ (q : Ring). Place q (pointAt r t) w) ring-relative (subst (λ (p : Pt). Place (moved (pos 1) (drift k t) one (standing (t .den) (corners.ring (k .corners)))) p w) point-relative (place-moved (pos 1) (drift k t) one (standing (t .den) (corners.ring (k .corners))) (relative r k t) w h))
-
-  pub relative-place : (w : Where) → Place (ringAt k t) (pointAt r t) w → Place (standing (t .den) (corners.ring (k .corners))) (relative r k t) w
-  relative-place w h = place-unmoved (pos 1) (drift k t) one (standing (t .den) (corners.ring (k .corners))) (relative r k t) w (subst (λ (p : Pt). Place (moved (pos 1) (drift k t) one (standing (t .den) (corners.ring (k .corners)))) p w) (sym point-relative) (subst (λ (q : Ring). Place q (pointAt r t) w) (sym ring-relative) h))
