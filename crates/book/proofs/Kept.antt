@@ -1,4 +1,4 @@
--- Demand 3, remembered: in a book that began empty and was written only by asking, every hit is true. Assumes nothing.
+-- What is remembered is true: in a book that began empty and was written only by asking, every hit is true. Assumes nothing.
 use mathlib.Core.Path.{_≡_, refl, sym, ap, subst, _∙_}
 use mathlib.Core.Logic.{⊎-elim}
 use mathlib.Core.List.{List, [], _∷_, _++_}
