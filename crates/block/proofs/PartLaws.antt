@@ -9,7 +9,7 @@ use lib.Seq.{ext-getD, length-take-le, getD-take, getD-drop, getD-append-add}
 use Rattle.whole.specs.Front.{Front}
 use Rattle.whole.proofs.Order.{ℕ-or}
 use Rattle.block.specs.Layout.{byte, sum, plainSum, weighedSum, filled, blockOf}
-use Rattle.block.specs.Reading.{SealedAs}
+use Rattle.block.specs.Reading.{SealedAs, PartsFit}
 use Rattle.block.specs.Scan.{Alike, SumsAt, Clean}
 use Rattle.block.proofs.Bytes.{filled-at, filled-length, sum-same, sum-split, plain-same, weighed-same, block-at, block-sealed, block-is}
 use Rattle.block.proofs.Mid.{mid, part-length, mid-before, mid-in, mid-after}
@@ -25,12 +25,12 @@ sum-short f m n h z =
     let e : n ≡ m + (n - m) = omega arith in
     ap (sum f) e ∙ sum-split f m (n - m) ∙ omega (arith, sum-zero (λ j. f (m + j)) (n - m) (λ j l. z (m + j) (omega arith) (omega arith)))
 
-module _ (first last : List ℕ) (at : ℕ) (k : length first ≤ at) (h : at + length last ≤ 510) where
+module _ (first last : List ℕ) (at : ℕ) (fit : PartsFit first last at) where
   abbrev both : List ℕ
   both = filled at first ++ last
 
   long : length (filled at first) ≡ at
-  long = filled-length at first k
+  long = filled-length at first (fit .begin)
 
   pub both-few : length both ≤ 510
   both-few = omega (arith, length-append (filled at first) last, long)
@@ -67,7 +67,7 @@ module _ (first last : List ℕ) (at : ℕ) (k : length first ≤ at) (h : at + 
   sums g o =
       let e : 510 ≡ at + (510 - at) = omega arith in
       let p = sum-same (λ i. g i (byte both i)) (λ i. g i (byte first i)) at (λ i q. ap (g i) (both-first i q)) in
-      let q = sum-short (λ i. g i (byte first i)) (length first) at k (λ i r s. ap (g i) (List·getD-eq-default first 0 {n = i} r) ∙ o i) in
+      let q = sum-short (λ i. g i (byte first i)) (length first) at (fit .begin) (λ i r s. ap (g i) (List·getD-eq-default first 0 {n = i} r) ∙ o i) in
       let r = sum-same (λ j. g (at + j) (byte both (at + j))) (λ j. g (at + j) (byte last j)) (510 - at) (λ j s. ap (g (at + j)) (both-last j)) in
       let s = sum-short (λ j. g (at + j) (byte last j)) (length last) (510 - at) (omega arith) (λ j t u. ap (g (at + j)) (List·getD-eq-default last 0 {n = j} t) ∙ o (at + j)) in
       ap (sum (λ i. g i (byte both i))) e ∙ sum-split (λ i. g i (byte both i)) at (510 - at) ∙ omega (arith, p, q, r, s)

@@ -11,10 +11,23 @@ ghost use mathlib.Core.List.{_++_};
 ghost use Prim.Native.Nat.{_+_, _≤_};
 ghost use lib.ListN.{length};
 ghost use Rattle.piece.specs.Decide.{Decides};
-ghost use Rattle.block.specs.Layout.{filled, blockOf};
+ghost use Rattle.block.specs.Layout.{plainSum, weighedSum, filled, blockOf};
 ghost use Rattle.refusal.specs.Said.{Writes};
-ghost use Rattle.block.specs.Reading.{SealedAs, partsAsked, PartsIn};
+ghost use Rattle.block.specs.Reading.{SealedAs, PartsFit, partsAsked, PartsIn};
 ghost use Rattle.block.specs.Scan.{Alike, SumsAt};
+
+// Whether the second part begins after the first one, and ends before the check.
+fn fit(first: &[u8], last: &[u8], at: usize) -> bool
+    ensures { λ r. ⌜ Decides (PartsFit (now (first .entry)) (now (last .entry)) at) r ⌝ }
+{
+    if at < first.len() {
+        return false;
+    }
+    if 510 < at {
+        return false;
+    }
+    last.len() <= 510 - at
+}
 
 // The sums of bytes that stand in a block from byte `at` on: the largest are 130,050 and 66,325,500.
 fn sums_at(bytes: &[u8], at: usize) -> Sums
@@ -33,8 +46,21 @@ fn sums_at(bytes: &[u8], at: usize) -> Sums
     Sums { plain, weighed }
 }
 
+// The check of the block that is made of the two parts.
+fn parts_sums(first: &[u8], last: &[u8], at: usize) -> Sums
+    requires { ⌜ PartsFit (now first) (now last) at ⌝ }
+    ensures { λ r. ⌜ (r .plain ≡ plainSum (filled at (now (first .entry)) ++ now (last .entry))) × (r .weighed ≡ weighedSum (filled at (now (first .entry)) ++ now (last .entry))) ⌝ }
+{
+    let head = sums_at(first, 0);
+    let tail = sums_at(last, at);
+    Sums {
+        plain: (head.plain + tail.plain) % 255,
+        weighed: (head.weighed + tail.weighed) % 255,
+    }
+}
+
 fn lay_parts(first: &[u8], last: &[u8], at: usize, block: &mut [u8])
-    requires { ⌜ (length (now first) ≤ at) × ((at + length (now last) ≤ 510) × (length (now block) ≡ 512)) ⌝ }
+    requires { ⌜ PartsFit (now first) (now last) at × (length (now block) ≡ 512) ⌝ }
     ensures { λ _. ⌜ Alike (now (block .exit)) (filled at (now (first .entry)) ++ now (last .entry)) ⌝ }
 {
     let end = at + last.len();
@@ -50,26 +76,19 @@ pub fn write_parts(first: &[u8], last: &[u8], at: usize, block: &mut [u8]) -> Ch
     if block.len() != 512 {
         return Checked::Refused(Refusal::Length);
     }
-    if at < first.len() {
+    if !fit(first, last, at) {
         return Checked::Refused(Refusal::Length);
     }
-    if 510 < at {
-        return Checked::Refused(Refusal::Length);
-    }
-    if 510 - at < last.len() {
-        return Checked::Refused(Refusal::Length);
-    }
-    let head = sums_at(first, 0);
-    let tail = sums_at(last, at);
+    let right = parts_sums(first, last, at);
     lay_parts(first, last, at, block);
-    block[510] = ((head.plain + tail.plain) % 255) as u8;
-    block[511] = ((head.weighed + tail.weighed) % 255) as u8;
+    block[510] = right.plain as u8;
+    block[511] = right.weighed as u8;
     Checked::Good
 }
 
 // Whether the first 510 bytes are those of the two parts.
 fn holds(first: &[u8], last: &[u8], at: usize, block: &[u8]) -> bool
-    requires { ⌜ (length (now first) ≤ at) × ((at + length (now last) ≤ 510) × (length (now block) ≡ 512)) ⌝ }
+    requires { ⌜ PartsFit (now first) (now last) at × (length (now block) ≡ 512) ⌝ }
     ensures { λ r. ⌜ Decides (Alike (now (block .entry)) (filled at (now (first .entry)) ++ now (last .entry))) r ⌝ }
 {
     let start = first.len();
@@ -88,17 +107,16 @@ fn holds(first: &[u8], last: &[u8], at: usize, block: &[u8]) -> bool
 
 // Whether the last two bytes are the check of the two parts.
 fn is_sealed(first: &[u8], last: &[u8], at: usize, block: &[u8]) -> bool
-    requires { ⌜ (length (now first) ≤ at) × ((at + length (now last) ≤ 510) × (length (now block) ≡ 512)) ⌝ }
+    requires { ⌜ PartsFit (now first) (now last) at × (length (now block) ≡ 512) ⌝ }
     ensures { λ r. ⌜ Decides (SealedAs (filled at (now (first .entry)) ++ now (last .entry)) (now (block .entry))) r ⌝ }
 {
-    let head = sums_at(first, 0);
-    let tail = sums_at(last, at);
+    let right = parts_sums(first, last, at);
     let plain = block[510] as u32;
     let weighed = block[511] as u32;
-    if plain != (head.plain + tail.plain) % 255 {
+    if plain != right.plain {
         return false;
     }
-    weighed == (head.weighed + tail.weighed) % 255
+    weighed == right.weighed
 }
 
 // Whether a block is the one that write_parts makes.
@@ -108,13 +126,7 @@ pub fn is_parts(first: &[u8], last: &[u8], at: usize, block: &[u8]) -> bool
     if block.len() != 512 {
         return false;
     }
-    if at < first.len() {
-        return false;
-    }
-    if 510 < at {
-        return false;
-    }
-    if 510 - at < last.len() {
+    if !fit(first, last, at) {
         return false;
     }
     if !holds(first, last, at, block) {

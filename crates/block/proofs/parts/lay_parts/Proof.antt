@@ -38,7 +38,7 @@ returns : tie.Need-returns
 returns c =
     let b = c .before .before .before .before .before .before .before .before .before .before .before .before .before .before .before in let a = b .args in let z = c .before .before .before .before .before .before .before .before .before .before .clear in let m = c .before .before .before .before .before .before .copy in let y = c .before .before .copy2 in let n = length (now (a .last)) in
     let e : a .at + n - a .at ≡ n = omega arith in
-    parts-alike (now (a .first)) (now (a .last)) (a .at) (b .pre .0) (b .pre .1 .0) (z .last .0) (m .last .1 .0) (y .last .1 .0) (a .at + n - a .at) (z .ensures .0) (z .ensures .1 .1) (m .ensures) (λ j h. y .ensures .first j h)
+    parts-alike (now (a .first)) (now (a .last)) (a .at) (b .pre .0) (z .last .0) (m .last .1 .0) (y .last .1 .0) (a .at + n - a .at) (z .ensures .0) (z .ensures .1 .1) (m .ensures) (λ j h. y .ensures .first j h)
     (y .kept .1 .0 ∙ part-length (m .last .1 .0) (a .at) (a .at + n - a .at) (omega (arith, m .ensures .stays .size, z .ensures .0, b .pre))) e
 
 pub lay-parts-spec : {M : Type 1} → statement M
