@@ -12,13 +12,13 @@ use Rattle.block.specs.Reading.{Sealed}
 pub use Rattle.block.specs.Scan.{Alike}
 
 -- ---- zeros after the first bytes
-pub zeros-at : (n i : ℕ) → byte (replicate n 0) i ≡ 0
-zeros-at zero i = refl
-zeros-at (suc n) zero = refl
-zeros-at (suc n) (suc i) = zeros-at n i
+pub repeated : {A : Type 0} (a : A) (n i : ℕ) → getD (replicate n a) i a ≡ a
+repeated a zero i = refl
+repeated a (suc n) zero = refl
+repeated a (suc n) (suc i) = repeated a n i
 
 padded : (l : List ℕ) (n i : ℕ) → getD (l ++ replicate n 0) i 0 ≡ getD l i 0
-padded [] n i = zeros-at n i
+padded [] n i = repeated 0 n i
 padded (x ∷ l) n zero = refl
 padded (x ∷ l) n (suc i) = padded l n i
 
@@ -36,7 +36,7 @@ unfolding sum
 sum-same f g zero h = refl
 sum-same f g (suc n) h = omega (arith, sum-same f g n (λ i l. h i (omega arith)), h n (omega arith))
 
-pub sum-more : (f : ℕ → ℕ) (n : ℕ) → sum f (n + 1) ≡ sum f n + f n
+sum-more : (f : ℕ → ℕ) (n : ℕ) → sum f (n + 1) ≡ sum f n + f n
 unfolding sum
 sum-more f n = let e : n + 1 ≡ suc n = omega arith in rw e
 
@@ -45,6 +45,24 @@ unfolding sum
 sum-split f m zero = let e : m + 0 ≡ m = omega arith in rw e (omega arith)
 sum-split f m (suc n) = let e : m + suc n ≡ suc (m + n) = omega arith in rw e (omega (arith, sum-split f m n))
 
+-- ---- a loop that sums: f over the first i of n numbers, each at most b
+pub record Upto (f : ℕ → ℕ) (b n i total : ℕ) : Type 0 where
+  pub below : i ≤ n
+  pub is : total ≡ sum f i
+  pub most : total ≤ b * i
+
+module _ (f : ℕ → ℕ) (b n : ℕ) where
+  pub upto-none : Upto f b n 0 0
+  unfolding sum
+  upto-none = record { below = omega arith; is = refl; most = omega arith }
+
+  pub upto-more : (i total : ℕ) → i < n → f i ≤ b → Upto f b n i total → Upto f b n (i + 1) (total + f i)
+  upto-more i total h k u = record { below = omega arith; is = rw sum-more (ap (λ m. m + f i) (u .is)); most = let m = u .most in omega arith }
+
+  pub upto-all : (i total : ℕ) → n ≤ i → Upto f b n i total → Upto f b n n total
+  upto-all i total h u = let l = u .below in let e : i ≡ n = omega arith in rw e at u
+
+-- ---- the two sums
 pub plain-below : (l : List ℕ) → plainSum l < 255
 unfolding plainSum
 plain-below l = omega arith

@@ -12,13 +12,9 @@ use Rattle.block.specs.Layout.{byte, word, words}
 use Rattle.whole.proofs.Front.{stored}
 use Rattle.block.proofs.Words.{low-at, high-at}
 
--- a store leaves what is elsewhere
-pub elsewhere : (l : List ℕ) (i k a : ℕ) → (k ≡ i → ⊥) → byte (set l i a) k ≡ byte l k
-elsewhere l i k a n = getD-set-other l i k a 0 n
-
 -- one more zero
 pub cleared : (l : List ℕ) (from i : ℕ) → i < length l → ((k : ℕ) → from ≤ k → k < i → byte l k ≡ 0) → (k : ℕ) → from ≤ k → k < i + 1 → byte (set l i 0) k ≡ 0
-cleared l from i h f k r g = ⊎-elim (λ (q : i ≤ k). let e : k ≡ i = omega arith in rw e (getD-set-same l i 0 0 h)) (λ (q : k < i). elsewhere l i k 0 (λ e. omega arith) ∙ f k r q) (ℕ-or i k)
+cleared l from i h f k r g = ⊎-elim (λ (q : i ≤ k). let e : k ≡ i = omega arith in rw e (getD-set-same l i 0 0 h)) (λ (q : k < i). getD-set-other l i k 0 0 (λ e. omega arith) ∙ f k r q) (ℕ-or i k)
 
 -- number j's two bytes, after those before it
 module _ (zs : List ℤ) (l : List ℕ) (j : ℕ) (h : 2 * suc j ≤ length l) where

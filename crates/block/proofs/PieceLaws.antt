@@ -29,9 +29,9 @@ use Rattle.block.specs.declared.PieceRead.{PieceRead}
 use Rattle.block.specs.Layout.{byte, word, words, filled, blockOf, pieceNumbers, pieceBody, pieceBlock}
 use Rattle.block.specs.Reading.{Half, PieceIn, inside, blockChecks, pieceBytes, pieceBlockChecks, Holds, nothing, PieceFound, PieceSays, Word, PieceGood}
 use Rattle.block.specs.Scan.{BandAt, CornersAt}
-use Rattle.block.proofs.Bytes.{filled-at, filled-length, block-length, block-at, block-sealed, block-same}
+use Rattle.block.proofs.Bytes.{repeated, filled-at, filled-length, block-length, block-at, block-sealed, block-same}
 use Rattle.block.proofs.Face.{stable, unnamed-front}
-use Rattle.block.proofs.Words.{half-word, word-one, words-length, no-corners}
+use Rattle.block.proofs.Words.{half-word, word-one, words-length}
 use Rattle.block.proofs.Laid.{few, Numbers, laid-is, laid-numbers, reach-half, speed-half}
 
 pub sized-length : (l : List ℤ) → Sized l → length l ≡ 2 * ring l .size
@@ -241,7 +241,7 @@ module _ (l : List ℕ) (b : Band) (a : List ℤ) (bytes : (i : ℕ) → Fits w8
   rest =
       ext-getD (pos 0) (drop (2 * byte l 1) a) (replicate (128 - 2 * byte l 1) (pos 0))
       (omega (arith, length-drop (2 * byte l 1) a, length-replicate (128 - 2 * byte l 1) (pos 0), corners .all))
-      (λ i h. getD-drop (2 * byte l 1) a i (pos 0) ∙ corners .rest (2 * byte l 1 + i) (omega arith) ∙ sym (no-corners (128 - 2 * byte l 1) i))
+      (λ i h. getD-drop (2 * byte l 1) a i (pos 0) ∙ corners .rest (2 * byte l 1 + i) (omega arith) ∙ sym (repeated (pos 0) (128 - 2 * byte l 1) i))
 
   pub piece-holds : (x : Checked) → Holds (record { found = x; band = b; corners = a; count = byte l 1 }) (pieceOf b (take (2 * byte l 1) a))
   piece-holds x = record {

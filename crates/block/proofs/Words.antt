@@ -8,7 +8,7 @@ use borrow.Author.Tests.{lt-ltb, le-ltb}
 use lib.Dec.{leb→le, le→leb, ltb→lt}
 use lib.IntN.{ℤ, pos, negsuc, _+ℤ_, _-ℤ_}
 use borrow.Author.Count.{below-more}
-use lib.ListN.{length, getD, set, replicate}
+use lib.ListN.{length, getD, set}
 use lib.Seq.{getD-set-same, getD-set-other}
 use lib.Signed.{_≤ℤ_, _<ℤ_}
 use mir.Syntax.{w32}
@@ -123,8 +123,3 @@ module _ (l : List ℕ) (a : List ℤ) (j : ℕ) (z : ℤ) where
     where
       ne : (k : ℕ) → j + 1 ≤ k → k ≡ j → ⊥
       ne k g q = omega arith
-
-pub no-corners : (n k : ℕ) → getD (replicate n (pos 0)) k (pos 0) ≡ pos 0
-no-corners zero k = refl
-no-corners (suc n) zero = refl
-no-corners (suc n) (suc k) = no-corners n k

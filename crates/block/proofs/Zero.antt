@@ -10,14 +10,14 @@ use Rattle.rules.specs.Good.{runChecks, pieceChecks}
 use Rattle.rules.proofs.Checks.{fault-left, fault-right}
 use Rattle.block.specs.Layout.{byte, sum, plainSum, weighedSum}
 use Rattle.block.specs.Reading.{RunIn, PieceIn, inside, blockChecks, headerBytes, headerChecks, runBytes, runBlockChecks, pieceBytes, pieceBlockChecks}
-use Rattle.block.proofs.Bytes.{zeros-at, sum-same}
+use Rattle.block.proofs.Bytes.{repeated, sum-same}
 
 unfoldable pub zeros : List ℕ
 zeros = replicate 512 0
 
 pub zero-at : (i : ℕ) → byte zeros i ≡ 0
 unfolding zeros
-zero-at i = zeros-at 512 i
+zero-at i = repeated 0 512 i
 
 no-sum : (n : ℕ) → sum (λ i. 0) n ≡ 0
 unfolding sum

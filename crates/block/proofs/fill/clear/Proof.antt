@@ -4,8 +4,9 @@ use Prim.Native.Nat.{ℕ, _-_, _≤_, _<_}
 use borrow.Author.Needs.{needs}
 use native.Mathlib.Omega.{arith}
 use lib.ListN.{length, length-set}
+use lib.Seq.{getD-set-other}
 use Rattle.block.specs.Layout.{byte}
-use Rattle.block.proofs.Pairs.{elsewhere, cleared}
+use Rattle.block.proofs.Pairs.{cleared}
 use Rattle.block.proofs.fill.clear.Statement.{statement}
 use Rattle.block.proofs.fill.clear.Tie as tie
 
@@ -30,7 +31,7 @@ loop-less c = omega arith
 loop-again : tie.Need-loop-again Inv-loop μ-loop
 loop-again c =
     let v = c .before .loop in
-    (simp length-set (v .inv .0), omega arith, omega arith, λ k h. elsewhere (v .block) (v .i) k 0 (λ e. omega arith) ∙ v .inv .3 k h, cleared (v .block) _ (v .i) (omega arith) (v .inv .4))
+    (simp length-set (v .inv .0), omega arith, omega arith, λ k h. getD-set-other (v .block) (v .i) k 0 0 (λ e. omega arith) ∙ v .inv .3 k h, cleared (v .block) _ (v .i) (omega arith) (v .inv .4))
 
 same-length : tie.Need-same-length Inv-loop μ-loop
 same-length c = omega arith

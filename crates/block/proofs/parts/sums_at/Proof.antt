@@ -1,55 +1,27 @@
 -- `block::parts::sums_at` meets its contract. The loop's invariant: both sums over the bytes passed, each at most what so many bytes can come to.
 -- Assumes nothing.
-use mathlib.Core.Path.{_≡_, refl, ap}
-use mathlib.Core.List.{List}
-use Prim.Native.Nat.{ℕ, _+_, _*_, _-_, _≤_, _<_}
+use Prim.Native.Nat.{ℕ, _+_, _*_, _-_, _≤_}
 use native.Mathlib.Nat.{mul-le-mul}
 use native.Mathlib.Omega.{arith}
 use mir.Syntax.{w8}
 use mir.Val.{Fits}
 use lib.ListN.{length}
-use Rattle.block.specs.Layout.{byte, sum}
-use Rattle.block.specs.Scan.{SumsAt}
-use Rattle.block.proofs.Bytes.{sum-more}
+use Rattle.block.specs.Layout.{byte}
+use Rattle.block.proofs.Bytes.{Upto, upto-none, upto-more, upto-all}
 use Rattle.block.proofs.parts.sums_at.Statement.{statement}
 use Rattle.block.proofs.parts.sums_at.Tie as tie
-
-record Upto (l : List ℕ) (at i plain weighed : ℕ) : Type 0 where
-  below : i ≤ length l
-  plain-is : plain ≡ sum (λ j. byte l j) i
-  weighed-is : weighed ≡ sum (λ j. (510 - (at + j)) * byte l j) i
-  plain-most : plain ≤ 255 * i
-  weighed-most : weighed ≤ 130050 * i
 
 weight-most : (i b : ℕ) → Fits w8 b → (510 - i) * b ≤ 130050
 weight-most i b h = let l : 510 - i ≤ 510 = omega arith in let k : b ≤ 255 = omega arith in mul-le-mul l k
 
-start : (l : List ℕ) (at : ℕ) → Upto l at 0 0 0
-unfolding sum
-start l at = record { below = omega arith; plain-is = refl; weighed-is = refl; plain-most = omega arith; weighed-most = omega arith }
-
-turn : (l : List ℕ) (at i plain weighed : ℕ) → i < length l → Fits w8 (byte l i) → Upto l at i plain weighed → Upto l at (i + 1) (plain + byte l i) (weighed + (510 - (at + i)) * byte l i)
-turn l at i plain weighed h b u = record {
-  below = omega arith;
-  plain-is = rw sum-more (ap (λ n. n + byte l i) (u .plain-is));
-  weighed-is = rw sum-more (ap (λ n. n + (510 - (at + i)) * byte l i) (u .weighed-is));
-  plain-most = let m = u .plain-most in omega arith;
-  weighed-most = let m = u .weighed-most in omega (arith, weight-most (at + i) (byte l i) b);
-}
-
-ended : (l : List ℕ) (at i plain weighed : ℕ) → length l ≤ i → Upto l at i plain weighed → SumsAt l at plain weighed
-ended l at i plain weighed h u =
-    let b = u .below in let e : i ≡ length l = omega arith in
-    record { plain-is = rw e at (u .plain-is); weighed-is = rw e at (u .weighed-is); plain-most = rw e at (u .plain-most); weighed-most = rw e at (u .weighed-most) }
-
 abbrev Inv-loop : tie.InvT-loop
-Inv-loop bytes at plain₀ weighed₀ i₀ plain weighed i = Upto bytes at i plain weighed
+Inv-loop bytes at plain₀ weighed₀ i₀ plain weighed i = Upto (λ j. byte bytes j) 255 (length bytes) i plain × Upto (λ j. (510 - (at + j)) * byte bytes j) 130050 (length bytes) i weighed
 
 abbrev μ-loop : tie.MeasureT-loop
 μ-loop bytes at plain₀ weighed₀ i₀ plain weighed i = length bytes - i
 
 loop-holds : tie.Need-loop-holds Inv-loop μ-loop
-loop-holds c = start _ _
+loop-holds c = (upto-none _ _ _, upto-none _ _ _)
 
 shared-slice-read-byte : tie.Need-shared-slice-read-byte Inv-loop μ-loop
 shared-slice-read-byte c = omega arith
@@ -87,11 +59,13 @@ loop-less c = omega arith
 
 loop-again : tie.Need-loop-again Inv-loop μ-loop
 loop-again c =
-    let i = c .before .before .loop .i in
-    turn _ _ i _ _ (omega arith) (c .shared-slice-known .given i) (c .before .before .loop .inv)
+    let b = c .before .before .before in let v = c .before .before .loop in let g = c .shared-slice-known .given (v .i) in
+    (upto-more _ _ _ _ _ (omega arith) (omega (arith, g)) (v .inv .0), upto-more _ _ _ _ _ (omega arith) (weight-most (b .args .at + v .i) (byte (b .args .bytes .now) (v .i)) g) (v .inv .1))
 
 returns : tie.Need-returns Inv-loop μ-loop
-returns c = ended _ _ _ _ _ (omega arith) (c .before .loop .inv)
+returns c =
+    let v = c .before .loop in let p = upto-all _ _ _ _ _ (omega arith) (v .inv .0) in let w = upto-all _ _ _ _ _ (omega arith) (v .inv .1) in
+    record { plain-is = p .is; weighed-is = w .is; plain-most = p .most; weighed-most = w .most }
 
 pub sums-at-spec : {M : Type 1} → statement M
 sums-at-spec =

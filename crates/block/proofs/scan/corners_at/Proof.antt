@@ -7,7 +7,8 @@ use lib.IntN.{pos}
 use lib.ListN.{length, getD, length-set}
 use denote.Ref.{now}
 use Rattle.block.specs.Scan.{NumberAt}
-use Rattle.block.proofs.Words.{corner-stored, rest-stored, no-corners}
+use Rattle.block.proofs.Bytes.{repeated}
+use Rattle.block.proofs.Words.{corner-stored, rest-stored}
 use Rattle.block.proofs.scan.corners_at.Statement.{statement}
 use Rattle.block.proofs.scan.corners_at.Tie as tie
 
@@ -22,7 +23,7 @@ abbrev μ-loop : tie.MeasureT-loop
 μ-loop block n corners₀ j₀ corners j = n - j
 
 loop-holds : tie.Need-loop-holds Inv-loop μ-loop
-loop-holds c = (refl, omega arith, below-none _, λ k h. no-corners 128 k)
+loop-holds c = (refl, omega arith, below-none _, λ k h. repeated (pos 0) 128 k)
 
 mul-number-at : tie.Need-mul-number-at Inv-loop μ-loop
 mul-number-at c = omega arith

@@ -2,41 +2,21 @@
 -- Assumes nothing.
 use mathlib.Core.Path.{_≡_, refl, sym, ap, _∙_}
 use mathlib.Core.List.{List}
-use Prim.Native.Nat.{ℕ, zero, suc, _+_, _*_, _-_, _%_, _≤_, _<_}
+use Prim.Native.Nat.{ℕ, zero, suc, _+_, _*_, _-_, _%_, _≤_}
 use native.Mathlib.Nat.{mul-le-mul, add-mul, mul-add}
 use native.Mathlib.Omega.{arith}
 use mir.Syntax.{w8}
 use mir.Val.{Fits}
 use Rattle.block.specs.Layout.{byte, sum, plainSum, weighedSum}
-use Rattle.block.proofs.Bytes.{sum-more, sum-split}
+use Rattle.block.proofs.Bytes.{sum-split, Upto, upto-none, upto-more, upto-all}
 use Rattle.block.proofs.sums.sums_of.Statement.{statement}
 use Rattle.block.proofs.sums.sums_of.Tie as tie
 
 abbrev both : List ℕ → ℕ → ℕ
 both l j = byte l j + byte l (255 + j)
 
-record Upto (l : List ℕ) (i plain weighed : ℕ) : Type 0 where
-  below : i ≤ 255
-  plain-is : plain ≡ sum (λ j. both l j) i
-  weighed-is : weighed ≡ sum (λ j. (255 - j) * both l j) i
-  plain-most : plain ≤ 510 * i
-  weighed-most : weighed ≤ 130050 * i
-
 weight-most : (i a b : ℕ) → Fits w8 a → Fits w8 b → (255 - i) * (a + b) ≤ 130050
 weight-most i a b h k = let l : 255 - i ≤ 255 = omega arith in let m : a + b ≤ 510 = omega arith in mul-le-mul l m
-
-start : (l : List ℕ) → Upto l 0 0 0
-unfolding sum
-start l = record { below = omega arith; plain-is = refl; weighed-is = refl; plain-most = omega arith; weighed-most = omega arith }
-
-turn : (l : List ℕ) (i plain weighed : ℕ) → i < 255 → Fits w8 (byte l i) → Fits w8 (byte l (255 + i)) → Upto l i plain weighed → Upto l (i + 1) (plain + both l i) (weighed + (255 - i) * both l i)
-turn l i plain weighed h a b u = record {
-  below = omega arith;
-  plain-is = rw sum-more (ap (λ n. n + both l i) (u .plain-is));
-  weighed-is = rw sum-more (ap (λ n. n + (255 - i) * both l i) (u .weighed-is));
-  plain-most = let m = u .plain-most in omega arith;
-  weighed-most = let m = u .weighed-most in omega (arith, weight-most i (byte l i) (byte l (255 + i)) a b);
-}
 
 -- ---- pairs and single bytes
 paired : (l : List ℕ) (n : ℕ) → sum (λ j. both l j) n ≡ sum (λ j. byte l j) n + sum (λ j. byte l (255 + j)) n
@@ -56,24 +36,19 @@ weighs l (suc n) h =
     let r = mul-add (255 - n) (byte l n) (byte l (255 + n)) in
     omega (arith, weighs l n (omega arith), p, q, r)
 
-ended : (l : List ℕ) (i plain weighed : ℕ) → 255 ≤ i → Upto l i plain weighed → (plain % 255 ≡ plainSum l) × (weighed % 255 ≡ weighedSum l)
+ended : (l : List ℕ) (plain weighed : ℕ) → plain ≡ sum (λ j. both l j) 255 → weighed ≡ sum (λ j. (255 - j) * both l j) 255 → (plain % 255 ≡ plainSum l) × (weighed % 255 ≡ weighedSum l)
 unfolding plainSum weighedSum
-ended l i plain weighed h u =
-    let b = u .below in let e : i ≡ 255 = omega arith in
-    let p = rw e at (u .plain-is) in
-    let w = rw e at (u .weighed-is) in (
-      ap (λ n. n % 255) (p ∙ paired l 255 ∙ sym (sum-split (λ j. byte l j) 255 255)),
-      omega (arith, w, weighs l 255 (omega arith), sum-split (λ j. (510 - j) * byte l j) 255 255),
-    )
+ended l plain weighed p w =
+    (ap (λ n. n % 255) (p ∙ paired l 255 ∙ sym (sum-split (λ j. byte l j) 255 255)), omega (arith, w, weighs l 255 (omega arith), sum-split (λ j. (510 - j) * byte l j) 255 255))
 
 abbrev Inv-loop : tie.InvT-loop
-Inv-loop block plain₀ weighed₀ i₀ plain weighed i = Upto block i plain weighed
+Inv-loop block plain₀ weighed₀ i₀ plain weighed i = Upto (λ j. both block j) 510 255 i plain × Upto (λ j. (255 - j) * both block j) 130050 255 i weighed
 
 abbrev μ-loop : tie.MeasureT-loop
 μ-loop block plain₀ weighed₀ i₀ plain weighed i = 255 - i
 
 loop-holds : tie.Need-loop-holds Inv-loop μ-loop
-loop-holds c = start _
+loop-holds c = (upto-none _ _ _, upto-none _ _ _)
 
 shared-slice-read-both : tie.Need-shared-slice-read-both Inv-loop μ-loop
 shared-slice-read-both c = omega arith
@@ -120,11 +95,11 @@ loop-less c = omega arith
 
 loop-again : tie.Need-loop-again Inv-loop μ-loop
 loop-again c =
-    let i = c .before .before .before .loop .i in
-    turn _ i _ _ (omega arith) (c .shared-slice-known2 .given i) (c .shared-slice-known2 .given (255 + i)) (c .before .before .before .loop .inv)
+    let l = c .before .before .before .before .args .block .now in let v = c .before .before .before .loop in let a = c .shared-slice-known2 .given (v .i) in let b = c .shared-slice-known2 .given (255 + v .i) in
+    (upto-more _ _ _ _ _ (omega arith) (omega (arith, a, b)) (v .inv .0), upto-more _ _ _ _ _ (omega arith) (weight-most (v .i) (byte l (v .i)) (byte l (255 + v .i)) a b) (v .inv .1))
 
 returns : tie.Need-returns Inv-loop μ-loop
-returns c = ended _ _ _ _ (omega arith) (c .before .loop .inv)
+returns c = let v = c .before .loop in ended _ _ _ (upto-all _ _ _ _ _ (omega arith) (v .inv .0) .is) (upto-all _ _ _ _ _ (omega arith) (v .inv .1) .is)
 
 pub sums-of-spec : {M : Type 1} → statement M
 sums-of-spec =
