@@ -4,7 +4,7 @@ use mathlib.Core.List.{List, [], _∷_, _++_, append-assoc}
 use Prim.Native.Nat.{ℕ, _+_, _≤_, _<_}
 use native.Mathlib.Omega.{arith}
 use lib.ListN.{length, getD, set, take, drop, List·getD-append, length-set, length-append, length-take, length-drop}
-use lib.Seq.{take-at, getD-take, getD-drop, getD-append-add}
+use lib.Seq.{take-at, drop-at, getD-take, getD-drop, getD-append-add}
 
 -- ys in the place of the n bytes from byte a on
 abbrev pub mid : ℕ → ℕ → List ℕ → List ℕ → List ℕ
@@ -18,6 +18,9 @@ module _ (l ys : List ℕ) (a n : ℕ) (h : a + n ≤ length l) (e : length ys �
   mid-front =
       ap (take (a + n)) (sym (append-assoc (take a l) ys (drop n (drop a l))))
       ∙ take-at (take a l ++ ys) (drop n (drop a l)) (a + n) (omega (arith, length-append (take a l) ys, length-take a l))
+
+  pub mid-part : take n (drop a (mid a n l ys)) ≡ ys
+  mid-part = ap (take n) (drop-at (take a l) (ys ++ drop n (drop a l)) a (omega (arith, length-take a l))) ∙ take-at ys (drop n (drop a l)) n e
 
 -- byte by byte
 module _ (l ys : List ℕ) (a n : ℕ) (h : a + n ≤ length l) (e : length ys ≡ n) where

@@ -15,13 +15,14 @@ use Rattle.rules.specs.Verdict.{Verdict, verdictChecks, answer}
 use Rattle.rules.proofs.Checks.{passes-left, passes-right}
 use Rattle.rules.proofs.Reach.{run-known, piece-known}
 use Rattle.block.specs.Layout.{sum, byte, plainSum, weighedSum, blockOf, filled, blockAt}
+use Rattle.block.proofs.Blocks.{nth-byte}
 use Rattle.block.proofs.Bytes.{filled-length}
 use Rattle.book.specs.declared.Asked.{Asked}
 use Rattle.book.specs.declared.Asked.the-variants.{Remembered, Worked, Refused}
 use Rattle.book.specs.Entry.{Slots, slots, question, home, four, entry, Hit}
 use Rattle.book.specs.Ask.{askChecks, Misses, AskSays, Kept, empty, asked}
 use Rattle.book.proofs.Question.{question-length, question-run, question-piece, entry-question, entry-code}
-use Rattle.book.proofs.Slots.{slot-byte, put-length, put-same, put-elsewhere}
+use Rattle.book.proofs.Slots.{put-length, put-same, put-elsewhere}
 
 -- ---- what the checks tell
 pub slots-of : (book : List ℕ) (r : Run) (k : Piece) → Passes (askChecks book r k) → Slots book
@@ -72,7 +73,7 @@ zeros n i = ⊎-elim (λ (h : n ≤ i). List·getD-eq-default (replicate n 0) 0 
 
 no-hit : (n : ℕ) (r : Run) (k : Piece) (c : ℕ) → Hit (replicate (512 * n) 0) r k c → ⊥
 no-hit n r k c h =
-    let e = sym (zeros (512 * n) (512 * home (replicate (512 * n) 0) r k + 0)) ∙ sym (slot-byte (replicate (512 * n) 0) (home (replicate (512 * n) 0) r k) 0 (omega arith)) ∙ ap (λ (l : List ℕ). getD l 0 0) (h .same) ∙ entry-kind r k c in
+    let e = sym (zeros (512 * n) (512 * home (replicate (512 * n) 0) r k + 0)) ∙ sym (nth-byte (replicate (512 * n) 0) (home (replicate (512 * n) 0) r k) 0 (omega arith)) ∙ ap (λ (l : List ℕ). getD l 0 0) (h .same) ∙ entry-kind r k c in
     omega arith
 
 -- ---- a stored verdict

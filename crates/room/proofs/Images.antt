@@ -1,11 +1,10 @@
 -- Laws of images: what length, header and length against count say, and where piece i stands. Assumes nothing.
-use mathlib.Core.Path.{_≡_, refl, sym, subst, _∙_}
+use mathlib.Core.Path.{_≡_, refl, sym, ap, subst, _∙_}
 use mathlib.Core.Logic.{inl, inr}
 use mathlib.Core.List.{List, [], _∷_}
 use Prim.Native.Nat.{ℕ, suc, _+_, _*_, _-_, _≤_, _<_}
 use native.Mathlib.Omega.{arith}
 use lib.ListN.{length, take, drop}
-use lib.Seq.{getD-take}
 use Rattle.rules.specs.Refusal as rules
 use Rattle.rules.specs.Refusal.{refuse, Check, Passes, Fault, demand}
 use Rattle.rules.specs.Reach.{Pieces}
@@ -16,6 +15,7 @@ use Rattle.refusal.specs.Said.{said}
 use Rattle.block.specs.Layout.{byte, blockAt}
 use Rattle.block.specs.Reading.{headerChecks, HeaderSays}
 use Rattle.block.specs.declared.HeaderRead.the-variants.{Count as Pieced, NoHeader}
+use Rattle.block.proofs.Blocks.{nth-byte, nth-part}
 use Rattle.block.proofs.Headers.{header-passes, header-one, header-is, header-count}
 use Rattle.room.specs.declared.Counted.the-variants.{Count, Refused}
 use Rattle.room.specs.Image.{count, Whole, saidIn, headChecks, piecesCheck, roomChecks, HeadSays, Has}
@@ -49,8 +49,7 @@ module _ (image : List ℕ) where
   last = demand (length image ≡ 512 * suc (count image)) (refuse 1 0 0) ∷ []
 
   first-five : byte b 5 ≡ count image
-  unfolding blockAt
-  first-five = getD-take 512 (drop (512 * 0) image) 5 0 (omega arith)
+  first-five = nth-byte image 0 5 (omega arith)
 
   pub not-whole : (Whole image → ⊥) → HeadSays image (Refused Length 0)
   unfolding headChecks
@@ -86,9 +85,7 @@ module _ (image : List ℕ) where
 
 -- ---- piece i
 pub part-is : (image : List ℕ) (i : ℕ) → take (512 * (i + 1) + 512 - 512 * (i + 1)) (drop (512 * (i + 1)) image) ≡ blockAt image (suc i)
-unfolding blockAt
-part-is image i =
-    let e : 512 * (i + 1) + 512 - 512 * (i + 1) ≡ 512 = omega arith in let f : 512 * (i + 1) ≡ 512 * suc i = omega arith in rw (e, f)
+part-is image i = let e : i + 1 ≡ suc i = omega arith in nth-part image (i + 1) ∙ ap (blockAt image) e
 
 pub few-pieces : (image : List ℕ) → Passes (roomChecks image) → Pieces (count image)
 unfolding roomChecks

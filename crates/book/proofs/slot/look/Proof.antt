@@ -6,7 +6,7 @@ use borrow.Author.Needs.{needs}
 use denote.Ref.{now}
 use Rattle.piece.specs.Numbers.{runOf}
 use Rattle.book.specs.Steps.{Recalls}
-use Rattle.book.proofs.Slots.{part-slot}
+use Rattle.block.proofs.Blocks.{nth-part}
 use Rattle.book.proofs.slot.look.Statement.{statement}
 use Rattle.book.proofs.slot.look.Tie as tie
 
@@ -31,7 +31,7 @@ recall-requires c κs = search needs
 returns : tie.Need-returns
 returns c =
     let a = c .before .before .before .before .args in
-    subst (λ (l : List ℕ). Recalls l (now (a .front)) (runOf (a .run)) (c .recall .result)) (part-slot (now (a .book)) (a .at)) (c .recall .ensures)
+    subst (λ (l : List ℕ). Recalls l (now (a .front)) (runOf (a .run)) (c .recall .result)) (nth-part (now (a .book)) (a .at)) (c .recall .ensures)
 
 pub look-spec : {M : Type 1} → statement M
 look-spec =
