@@ -3,16 +3,13 @@ use mathlib.Core.Path.{_≡_, refl, sym, ap, subst, _∙_}
 use mathlib.Core.Bool.{Bool}
 use mathlib.Core.Logic.{inr}
 use mathlib.Core.List.{List, _++_}
-use Prim.Native.Nat.{ℕ, suc, _+_, _*_, _%_, _≤_, _<_}
-use native.Mathlib.Nat.{mod-lt}
-use native.Mathlib.Omega.{arith}
+use Prim.Native.Nat.{ℕ, suc, _+_, _*_, _%_, _≤_}
 use lib.ListN.{length}
 use Rattle.rules.specs.Reach.{Run, Piece}
 use Rattle.rules.specs.Refusal.{Refusal, Passes, Fault}
 use Rattle.rules.specs.Good.{runChecks, pieceChecks}
 use Rattle.rules.specs.Verdict.{verdictChecks}
 use Rattle.rules.proofs.Checks.{passes-append, fault-left, fault-right}
-use Rattle.rules.proofs.Reach.{piece-known}
 use Rattle.refusal.specs.Said.{said}
 use Rattle.refusal.specs.declared.Refusal as told
 use Rattle.block.specs.Layout.{byte, sum, blockOf, blockAt}
@@ -23,14 +20,13 @@ use Rattle.book.specs.declared.slot.Found.the-variants.{Code, Nothing}
 use Rattle.book.specs.Entry.{Slots, slots, home, four, entry, Hit, put}
 use Rattle.book.specs.Ask.{askChecks, Hits, AskSays}
 use Rattle.book.specs.Steps.{Begun, Begins, Sound, Recalls, Sought, Works}
+use Rattle.book.proofs.Slots.{slot-in}
 use Rattle.book.proofs.Kept.{piece-passes}
 use Rattle.book.proofs.Lay.{begun-good, home-is}
 
 module _ (book front : List ℕ) (r : Run) (k : Piece) (i : ℕ) (s : Slots book) (good : Passes (runChecks r)) (e : i ≡ sum (λ j. byte front (2 + j)) 281 % slots book) where
   pub in-book : 512 * suc i ≤ length book
-  in-book =
-      let w = s .whole in let l = s .above in let p : 0 < slots book = omega arith in
-      omega (arith, e, mod-lt (sum (λ j. byte front (2 + j)) 281) p)
+  in-book = rw e (slot-in book s (sum (λ j. byte front (2 + j)) 281))
 
   -- the run passes, so the rest is the piece's
   pub piece-fault : (x : told.Refusal) → Fault (pieceChecks k) (said x) → Fault (askChecks book r k) (said x)
@@ -44,7 +40,7 @@ module _ (book front : List ℕ) (r : Run) (k : Piece) (i : ℕ) (s : Slots book
   -- ---- a good piece is laid out
   module _ (p : Passes (pieceChecks k)) (b : Begun r k front) where
     at-home : i ≡ home book r k
-    at-home = e ∙ home-is book front r k (piece-known k p) b
+    at-home = e ∙ home-is book front r k b
 
     entry-is : (c : ℕ) → blockOf (front ++ four c) ≡ entry r k c
     unfolding entry

@@ -11,7 +11,7 @@ use Rattle.whole.proofs.Flag.{false-true}
 use Rattle.rules.specs.Reach.{Run, Piece}
 use Rattle.rules.specs.Ring.{ring}
 use Rattle.rules.specs.Refusal.{Check, Passes}
-use Rattle.rules.specs.Good.{PieceKnown, pieceChecks}
+use Rattle.rules.specs.Good.{pieceChecks}
 use Rattle.rules.proofs.Checks.{AllSharp, never-both}
 use Rattle.refusal.specs.Said.{said, Writes}
 use Rattle.refusal.specs.declared.Refusal as told
@@ -133,10 +133,10 @@ pub laid-good : (r : Run) (k : Piece) (front : List ℕ) (laid : Bool) → Begin
 laid-good r k front laid b p = padded r k front (begun-good r k front laid b p .1)
 
 -- ---- the home slot
-pub home-is : (book front : List ℕ) (r : Run) (k : Piece) → PieceKnown k → Begun r k front → sum (λ i. byte front (2 + i)) 281 % slots book ≡ home book r k
+pub home-is : (book front : List ℕ) (r : Run) (k : Piece) → Begun r k front → sum (λ i. byte front (2 + i)) 281 % slots book ≡ home book r k
 unfolding home
-home-is book front r k h b =
-    ap (λ n. n % slots book) (sum-same (λ i. byte front (2 + i)) (byte (question r k)) 281 at ∙ ap (sum (byte (question r k))) (sym (question-length r k h)))
+home-is book front r k b =
+    ap (λ n. n % slots book) (sum-same (λ i. byte front (2 + i)) (byte (question r k)) 281 at ∙ ap (sum (byte (question r k))) (sym (question-length r k (b .few))))
   where
     at : (i : ℕ) → i < 281 → byte front (2 + i) ≡ byte (question r k) i
     at i g = let e : 2 + i ≡ suc (suc i) = omega arith in ap (λ (l : List ℕ). byte l (2 + i)) (b .first) ∙ ap (byte (3 ∷ 0 ∷ question r k)) e

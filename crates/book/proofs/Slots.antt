@@ -2,7 +2,8 @@
 use mathlib.Core.Path.{_≡_, sym, ap, _∙_}
 use mathlib.Core.Logic.{_⊎_, inl, inr, ⊎-elim}
 use mathlib.Core.List.{List, _++_}
-use Prim.Native.Nat.{ℕ, suc, _+_, _*_, _-_, _≤_, _<_}
+use Prim.Native.Nat.{ℕ, suc, _+_, _*_, _-_, _%_, _≤_, _<_}
+use native.Mathlib.Nat.{mod-lt}
 use native.Mathlib.Omega.{arith}
 use lib.ListN.{length, take, drop}
 use lib.Seq.{ext-getD, drop-drop}
@@ -10,7 +11,7 @@ use Rattle.whole.proofs.Order.{ℕ-or}
 use Rattle.block.specs.Layout.{byte, blockAt}
 use Rattle.block.proofs.Blocks.{nth-length, nth-byte, nth-size}
 use Rattle.block.proofs.Mid.{mid, mid-length, mid-part, mid-before, mid-after}
-use Rattle.book.specs.Entry.{put}
+use Rattle.book.specs.Entry.{Slots, slots, put}
 
 -- a slot is put in the middle of the book
 put-mid : (b : List ℕ) (i : ℕ) (s : List ℕ) → put b i s ≡ mid (512 * i) 512 b s
@@ -22,6 +23,10 @@ put-mid b i s =
 -- as code puts it: from 512·i to 512·i + 512
 pub part-put : (b : List ℕ) (i : ℕ) (s t : List ℕ) → s ≡ t → mid (512 * i) (512 * i + 512 - 512 * i) b s ≡ put b i t
 part-put b i s t e = ap (λ n. mid (512 * i) n b s) (nth-size i) ∙ ap (λ (l : List ℕ). mid (512 * i) 512 b l) e ∙ sym (put-mid b i t)
+
+-- a number modulo the number of slots is that of a slot
+pub slot-in : (b : List ℕ) → Slots b → (n : ℕ) → 512 * suc (n % slots b) ≤ length b
+slot-in b s n = let w = s .whole in let l = s .above in let p : 0 < slots b = omega arith in omega (arith, mod-lt n p)
 
 module _ (b s : List ℕ) (i : ℕ) (l : length s ≡ 512) (h : 512 * suc i ≤ length b) where
   within : 512 * i + 512 ≤ length b

@@ -5,11 +5,11 @@ use Prim.Native.Nat.{ℕ}
 use Rattle.rules.specs.Reach.{Run, Piece}
 use Rattle.rules.specs.Refusal.{Passes}
 use Rattle.rules.specs.Verdict.{Verdict, answer}
-use Rattle.rules.proofs.Checks.{AllSharp, sharp-demand, never-both, one-fault}
+use Rattle.rules.proofs.Checks.{AllSharp, sharp-demand, never-both}
 use Rattle.rules.proofs.Good.{sharp-verdict}
 use Rattle.rules.proofs.Verdict.{one-verdict, answer-one}
 use Rattle.refusal.specs.Said.{said}
-use Rattle.refusal.proofs.Unique.{said-one}
+use Rattle.refusal.proofs.Unique.{refused-one}
 use Rattle.book.specs.declared.Asked.{Asked}
 use Rattle.book.specs.declared.Asked.the-variants.{Remembered, Worked, Refused}
 use Rattle.block.specs.Layout.{blockAt}
@@ -26,10 +26,10 @@ sharp-ask book r k = (sharp-demand _ _, sharp-verdict r k)
 pub never-mixed : (book : List ℕ) (r s : Run) (k m : Piece) (c d : ℕ) → Passes (askChecks book r k) → Passes (askChecks book s m) → home book r k ≡ home book s m → Hit book r k c → Hit book s m d → (r ≡ s) × (k ≡ m)
 never-mixed book r s k m c d p q e h g =
     let x = entry-question r s k m c d (piece-of book r k p) (piece-of book s m q) (sym (h .same) ∙ ap (λ i. blockAt book i) e ∙ g .same) in
-    (question-run r s k m (run-of book r k p) (run-of book s m q) (piece-of book r k p) (piece-of book s m q) x, question-piece r s k m (run-of book r k p) (run-of book s m q) (piece-of book r k p) (piece-of book s m q) x)
+    (question-run r s k m x (run-of book r k p) (run-of book s m q), question-piece r s k m x (piece-of book r k p) (piece-of book s m q))
 
 hit-one : (book : List ℕ) (r : Run) (k : Piece) (c d : ℕ) → Passes (askChecks book r k) → Hit book r k c → Hit book r k d → c ≡ d
-hit-one book r k c d p h g = entry-code r r k k c d (piece-of book r k p) (piece-of book r k p) (h .fits) (g .fits) (sym (h .same) ∙ g .same)
+hit-one book r k c d p h g = entry-code r r k k c d (piece-of book r k p) (piece-of book r k p) (sym (h .same) ∙ g .same) (h .fits) (g .fits)
 
 worked-one : (r : Run) (k : Piece) (c d : ℕ) → Verdict r k (answer c) → Verdict r k (answer d) → c ≡ d
 worked-one r k c d h g = answer-one c d (one-verdict r k (answer c) (answer d) h g)
@@ -40,7 +40,7 @@ one-answer book after later r k (Remembered c) (Remembered d) h g = ap Remembere
 one-answer book after later r k (Remembered c) (Worked d) h g = absurd (g .miss c (h .hit))
 one-answer book after later r k (Worked c) (Remembered d) h g = absurd (h .miss d (g .hit))
 one-answer book after later r k (Worked c) (Worked d) h g = ap Worked (worked-one r k c d (h .verdict) (g .verdict))
-one-answer book after later r k (Refused x) (Refused y) h g = ap Refused (said-one x y (one-fault (askChecks book r k) (sharp-ask book r k) (said x) (said y) (h .0) (g .0)))
+one-answer book after later r k (Refused x) (Refused y) h g = ap Refused (refused-one (askChecks book r k) (sharp-ask book r k) x y (h .0) (g .0))
 one-answer book after later r k (Remembered c) (Refused y) h g = absurd (never-both (askChecks book r k) (sharp-ask book r k) (said y) (h .passes) (g .0))
 one-answer book after later r k (Worked c) (Refused y) h g = absurd (never-both (askChecks book r k) (sharp-ask book r k) (said y) (h .passes) (g .0))
 one-answer book after later r k (Refused x) (Remembered d) h g = absurd (never-both (askChecks book r k) (sharp-ask book r k) (said x) (g .passes) (h .0))
