@@ -16,7 +16,7 @@ padded-length front size p =
     let w = p .within in ap length (p .zeros) ∙ filled-length 283 (take (27 + 2 * size) front) (omega (arith, length-take (27 + 2 * size) front))
 
 -- ---- four bytes and their number
-code-of : (c : ℕ) → c < 4294967296 → c ≡ c % 256 + 256 * (c / 256 % 256) + 65536 * (c / 256 / 256 % 256) + 16777216 * (c / 256 / 256 / 256 % 256)
+pub code-of : (c : ℕ) → c < 4294967296 → c ≡ c % 256 + 256 * (c / 256 % 256) + 65536 * (c / 256 / 256 % 256) + 16777216 * (c / 256 / 256 / 256 % 256)
 code-of c h = omega arith
 
 -- ---- a sound slot is known by its bytes

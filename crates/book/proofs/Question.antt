@@ -1,18 +1,19 @@
 -- The bytes of a question tell its run and its piece. Assumes nothing.
 use mathlib.Core.Path.{_≡_, refl, sym, ap, _∙_}
 use mathlib.Core.List.{List, _∷_, _++_, append-assoc}
-use Prim.Native.Nat.{ℕ, _*_, _/_, _%_, _≤_, _<_}
+use Prim.Native.Nat.{ℕ, _+_, _*_, _≤_, _<_}
 use native.Mathlib.Omega.{arith}
-use lib.ListN.{length, getD, take, drop, length-append}
+use lib.ListN.{length, take, drop, length-append}
 use lib.Seq.{take-at, drop-at}
 use Rattle.rules.specs.Reach.{Run, Piece}
 use Rattle.rules.specs.Refusal.{Passes}
 use Rattle.rules.specs.Good.{runChecks, pieceChecks}
-use Rattle.block.specs.Layout.{filled, blockOf, runBody, runBlock, pieceBody, pieceBlock}
+use Rattle.block.specs.Layout.{byte, filled, blockOf, runBody, runBlock, pieceBody, pieceBlock}
 use Rattle.block.proofs.Bodies.{run-body-length, piece-body-length}
 use Rattle.block.proofs.RunLaws as runs
 use Rattle.block.proofs.PieceLaws as pieces
 use Rattle.book.specs.Entry.{question, four, entry}
+use Rattle.book.proofs.Look.{code-of}
 
 -- equal lists with fronts of one length have equal fronts
 fronts : (a b c d : List ℕ) → length a ≡ length b → a ++ c ≡ b ++ d → a ≡ b
@@ -50,27 +51,8 @@ module _ (r s : Run) (k m : Piece) (e : question r k ≡ question s m) where
   question-piece p q = pieces.piece-one (pieceBlock k) k m (pieces.good-in k p) (pieces.block-in (pieceBlock k) m same-piece q)
 
 -- ---- entries
-by-bytes : (m n : ℕ) → m % 256 ≡ n % 256 → m / 256 ≡ n / 256 → m ≡ n
-by-bytes m n e f = omega arith
-
-top-byte : (m n : ℕ) → m < 256 → n < 256 → m % 256 ≡ n % 256 → m ≡ n
-top-byte m n h k e = omega arith
-
-below : (m n : ℕ) → m < 256 * n → m / 256 < n
-below m n h = omega arith
-
 four-one : (c d : ℕ) → c < 4294967296 → d < 4294967296 → four c ≡ four d → c ≡ d
-four-one c d h k e =
-    by-bytes c d (at 0)
-    (by-bytes (c / 256) (d / 256) (at 1)
-    (by-bytes (c / 256 / 256) (d / 256 / 256) (at 2)
-    (top-byte (c / 256 / 256 / 256) (d / 256 / 256 / 256) (small c h) (small d k) (at 3))))
-  where
-    at : (i : ℕ) → getD (four c) i 0 ≡ getD (four d) i 0
-    at i = ap (λ (l : List ℕ). getD l i 0) e
-
-    small : (n : ℕ) → n < 4294967296 → n / 256 / 256 / 256 < 256
-    small n h = below (n / 256 / 256) 256 (below (n / 256) 65536 (below n 16777216 h))
+four-one c d h k e = code-of c h ∙ ap (λ (l : List ℕ). byte l 0 + 256 * byte l 1 + 65536 * byte l 2 + 16777216 * byte l 3) e ∙ sym (code-of d k)
 
 block-fronts : (l m : List ℕ) → length l ≡ length m → blockOf l ≡ blockOf m → l ≡ m
 unfolding blockOf filled
