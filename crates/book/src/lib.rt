@@ -38,17 +38,13 @@ fn work(book: &mut [u8], at: usize, front: &[u8], run: Run, band: Band, corners:
     requires { ⌜ (512 * suc at ≤ length (now book)) × Laid (pieceOf band (now corners)) (now front) ⌝ }
     ensures { λ r. ⌜ Works (now (book .entry)) (now (book .exit)) at (now (front .entry)) (runOf run) (pieceOf band (now (corners .entry))) r ⌝ }
 {
-    match verdict(run, band, corners) {
-        Verdict::Refused(x) => Asked::Refused(x),
-        Verdict::Clear => {
-            keep(book, at, front, corners.len(), NONE);
-            Asked::Worked(NONE)
-        }
-        Verdict::Mark(m) => {
-            keep(book, at, front, corners.len(), m);
-            Asked::Worked(m)
-        }
-    }
+    let code = match verdict(run, band, corners) {
+        Verdict::Refused(x) => return Asked::Refused(x),
+        Verdict::Clear => NONE,
+        Verdict::Mark(m) => m,
+    };
+    keep(book, at, front, corners.len(), code);
+    Asked::Worked(code)
 }
 
 // A good run asks: what is remembered is answered only of a good piece.
