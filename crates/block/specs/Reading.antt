@@ -82,6 +82,7 @@ pieceBytes l =
     ∷ unnamedCheck l (12 + 4 * byte l 1)
     ∷ []
 
+-- the bytes that are no numbers, by the kind of the block
 abbrev pub bytesOf : Kind → List ℕ → List Check
 bytesOf kind.Header l = headerBytes l
 bytesOf kind.Run l = runBytes l
