@@ -14,12 +14,12 @@
  * Answers: one uint64_t.
  *   Not refused: bit 63 is clear and the value stands in the low 32 bits, as said at each call
  *   (baker_ask sets bit 32 besides).
- *   Refused: bit 63 is set, bits 48 to 55 have the number, bits 32 to 47 the block, bits 16 to 31 the
+ *   Refused: bit 63 is set, bits 48 to 55 have the number, bits 40 to 47 the block, bits 16 to 39 the
  *   place a, bits 0 to 15 the place b. The block is i + 1 where piece block i of a room is refused,
  *   otherwise 0. Places that are not named are 0. Nothing that was lent changes.
  *
  *   number  given when                                              a, b
- *    1      the length of a room, a book or a block is wrong
+ *    1      the length of a room, a book, a block or a file is wrong
  *    2      the check of a block is wrong
  *    3      wrong kind, name, edition, a piece count over 126,      a: the first such byte
  *           or an unnamed byte that is not zero
@@ -31,8 +31,11 @@
  *    9      the footprint is clockwise
  *   10      the lent list is too short
  *   11      an exported number is not a number                      a: corner, b: 0 for x, 1 for y
- *   12      an exported number is out of reach                      as 11
- *   13      an exported number is off the grid                      as 11
+ *   12      an exported number, or one of a file, is out of reach   as 11
+ *   13      an exported number, or one of a file, is off the grid   as 11
+ *   14      a line of a file is none of those that are read         a: the line, from 1
+ *   15      an index in a face names no v above the face            a: the line
+ *   16      a file has a second face, or none                       a: the line, 0 for none
  */
 #ifndef BAKER_H
 #define BAKER_H
@@ -46,8 +49,8 @@ extern "C" {
 
 #define BAKER_REFUSED(answer) ((int)((uint64_t)(answer) >> 63))
 #define BAKER_NUMBER(answer) ((unsigned)((uint64_t)(answer) >> 48 & 0xFF))
-#define BAKER_BLOCK(answer) ((unsigned)((uint64_t)(answer) >> 32 & 0xFFFF))
-#define BAKER_A(answer) ((unsigned)((uint64_t)(answer) >> 16 & 0xFFFF))
+#define BAKER_BLOCK(answer) ((unsigned)((uint64_t)(answer) >> 40 & 0xFF))
+#define BAKER_A(answer) ((unsigned)((uint64_t)(answer) >> 16 & 0xFFFFFF))
 #define BAKER_B(answer) ((unsigned)((uint64_t)(answer) & 0xFFFF))
 #define BAKER_VALUE(answer) ((uint32_t)((uint64_t)(answer) & 0xFFFFFFFF))
 #define BAKER_REMEMBERED(answer) ((int)((uint64_t)(answer) >> 32 & 1))
@@ -181,6 +184,38 @@ uint64_t baker_take(float x, int32_t *grid, float *floor);
  * footprint itself is not checked: see baker_check_piece.
  */
 uint64_t baker_intake(const float *numbers, size_t numbers_len, int32_t *list, size_t list_len);
+
+/* ---- Wavefront OBJ text: a file of at most 65536 bytes with one face ---- */
+
+/*
+ * A line ends with a line feed, and the last one may lack it; one carriage return directly before the
+ * feed belongs to the end. Spaces and tabs part the words of a line and mean nothing else; every other
+ * byte is part of a word. All lines are counted, from 1.
+ *
+ *   v X Y Z      three numbers and nothing after them. A number is +, - or no sign, one to nine digits,
+ *                and perhaps a point and one to nine digits more.
+ *   f C C C ..   the face, of any number of corners. A corner is n, n/t, n//m or n/t/m, each a whole
+ *                number of any length with - or no sign. n is the n-th v of the file, from 1, or counts
+ *                back from the last v above the face, which is -1; it must stand above the face, and 0
+ *                names none. t and m name nothing and can be any number.
+ *   passed over  a line that is blank, whose first byte is #, or whose first word is o, g, s, vn, vt,
+ *                usemtl or mtllib, whatever follows it.
+ */
+
+/*
+ * The footprint that is the face of a file, into a list of grid numbers x, y, x, y ..; later elements
+ * stay. X is our x and minus Z our y, read exactly, one unit 16 grid units, from -1024 to 1024; Y is not
+ * used, nor are the numbers of a v that the face does not name. The caller gives band and velocity, and
+ * the piece is checked.
+ * Value: the corner count. Refused: 1 for a longer file; then line by line 14 for any other line, 16 for
+ * a second face, 15 for an index that names no v above the face; 16 with a = 0 for no face; 12 and 13 by
+ * the first number of the face's corners, x before y, that cannot be taken, where a is the corner's
+ * number in the face, from 0; then the piece's 5, 4, 6, 7, 8, 9 as baker_check_piece; at last 10 where
+ * the list has fewer than 2 * count elements. The list is then as it was.
+ * The call takes some 72 KB of stack, most of it a table of the vertices.
+ */
+uint64_t baker_obj(const uint8_t *file, size_t file_len, int32_t bottom, int32_t top, int32_t vx,
+                   int32_t vy, int32_t vz, int32_t *list, size_t list_len);
 
 #ifdef __cplusplus
 }

@@ -1,14 +1,15 @@
 -- Every refusal that the checks of a call can give fits in the bits of its code, and no mark is the code of clear. Assumes nothing.
-use mathlib.Core.Path.{_≡_, sym, subst}
+use mathlib.Core.Path.{_≡_, refl, sym, subst}
 use mathlib.Core.Logic.{inl, inr, ⊎-elim}
 use mathlib.Core.List.{List, [], _∷_, _++_}
 use Prim.Native.Nat.{ℕ, zero, suc, _+_, _^_, _≤_, _<_}
 use native.Mathlib.Omega.{arith}
 use lib.IntN.{ℤ}
+use lib.ListN.{length}
 use lib.Ieee.{Float}
 use Rattle.rules.specs.Reach.{Run, Piece}
 use Rattle.rules.specs.Ring.{Pt}
-use Rattle.rules.specs.Refusal.{Refusal, refuse, Check, Passes, Fault, demand, each}
+use Rattle.rules.specs.Refusal.{Refusal, refuse, Check, Passes, Fault, demand, each, rows}
 use Rattle.rules.specs.Good.{Sized, runChecks, sizedCheck, bandCheck, shapeChecks, footprintChecks, pieceChecks}
 use Rattle.rules.specs.Place.{placeChecks}
 use Rattle.rules.specs.Verdict.{verdictChecks}
@@ -20,6 +21,11 @@ use Rattle.intake.specs.declared.Corner.{Corner}
 use Rattle.intake.specs.declared.Taken.{Taken}
 use Rattle.intake.specs.declared.Taken.the-variants.{Grid, OffGrid, NotNumber, Beyond}
 use Rattle.intake.specs.Footprint.{Row, numberCheck, cornerAt, cornersChecks, intakeChecks}
+use Rattle.obj.specs.Text.{lines}
+use Rattle.obj.specs.Number.{Decimal}
+use Rattle.obj.specs.Line.{Point}
+use Rattle.obj.specs.File as obj
+use Rattle.obj.proofs.Bounds.{lines-few, face-few}
 use Rattle.block.specs.Layout.{blockAt}
 use Rattle.block.specs.Reading.{blockChecks, headerBytes, headerChecks, runBytes, pieceBytes, RunIn, PieceIn, inside, runBlockChecks, pieceBlockChecks, headerAsked, runAsked, pieceAsked}
 use Rattle.block.proofs.RunLaws.{good-ticks}
@@ -42,7 +48,7 @@ record Fit (c : Check) : Type 0 where
 pub record AllFit (cs : List Check) : Type 0 where
   pub fits : (s : Refusal) → Fault cs s → Fits s
 
-small : (n a b : ℕ) → n < 2 ^ 8 → a < 2 ^ 16 → b < 2 ^ 16 → Fits (refuse n a b)
+small : (n a b : ℕ) → n < 2 ^ 8 → a < 2 ^ 24 → b < 2 ^ 16 → Fits (refuse n a b)
 small n a b h k l = record { number = h; block = omega arith; a = k; b = l }
 
 -- ---- checks in a row: a later one may rely on those before
@@ -55,16 +61,24 @@ first f g = record { fits = λ s h. ⊎-elim (λ k. f .fits s k) (λ k. g (k .0)
 last : {c : Check} → Fit c → AllFit (c ∷ [])
 last f = first f (λ p. none)
 
-asks : {P : Type 0} {n a : ℕ} {cs : List Check} → n + a < 2 ^ 8 → (P → AllFit cs) → AllFit (demand P (refuse n a 0) ∷ cs)
-asks {P} {n} {a} h = first (record { fits = λ s f. subst Fits (sym (f .1)) (small n a 0 (omega arith) (omega arith) (omega arith)) })
+demands : {P : Type 0} {n a b : ℕ} {cs : List Check} → n < 2 ^ 8 → a < 2 ^ 24 → b < 2 ^ 16 → (P → AllFit cs) → AllFit (demand P (refuse n a b) ∷ cs)
+demands {P} {n} {a} {b} h k l = first (record { fits = λ s f. subst Fits (sym (f .1)) (small n a b h k l) })
 
-scans : {Bad : ℕ → Type 0} {m n : ℕ} {at : ℕ → ℕ} {cs : List Check} → n < 2 ^ 8 → ((i : ℕ) → i < m → at i < 2 ^ 16) → AllFit cs → AllFit (each Bad m (λ i. refuse n (at i) 0) ∷ cs)
+asks : {P : Type 0} {n a : ℕ} {cs : List Check} → n + a < 2 ^ 8 → (P → AllFit cs) → AllFit (demand P (refuse n a 0) ∷ cs)
+asks h = demands (omega arith) (omega arith) (omega arith)
+
+scans : {Bad : ℕ → Type 0} {m n : ℕ} {at : ℕ → ℕ} {cs : List Check} → n < 2 ^ 8 → ((i : ℕ) → i < m → at i < 2 ^ 24) → AllFit cs → AllFit (each Bad m (λ i. refuse n (at i) 0) ∷ cs)
 scans {Bad} {m} {n} {at} h k g = first (record { fits = λ s f. subst Fits (sym (f .2)) (small n (at (f .0)) 0 h (k (f .0) (f .1 .below)) (omega arith)) }) (λ p. g)
 
 row : (cs ds : List Check) → AllFit cs → (Passes cs → AllFit ds) → AllFit (cs ++ ds)
 row [] ds f g = g tt
 row (c ∷ cs) ds f g =
     first (record { fits = λ s k. f .fits s (inl k) }) (λ p. row cs ds (record { fits = λ s k. f .fits s (inr (p, k)) }) (λ q. g (p, q)))
+
+fit-rows : (f : ℕ → List Check) (n : ℕ) → ((i : ℕ) → i < n → AllFit (f i)) → AllFit (rows f n)
+unfolding rows
+fit-rows f zero h = none
+fit-rows f (suc n) h = row (rows f n) (f n) (fit-rows f n (λ i k. h i (omega arith))) (λ p. h n (omega arith))
 
 -- ---- runs, footprints and pieces
 pub fit-run : (r : Run) → AllFit (runChecks r)
@@ -158,7 +172,7 @@ fit-step image place x (head f) = fit-head image .fits x f
 fit-step image place x (block p l r f e) = subst Fits (sym e) (in-block image place r (omega (arith, head-few image p)) f)
 
 -- ---- exported numbers
-fit-number : (x : Float) (a b : ℕ) → a < 2 ^ 16 → b < 2 ^ 16 → Fit (numberCheck x a b)
+fit-number : (x : Float) (a b : ℕ) → a < 2 ^ 24 → b < 2 ^ 16 → Fit (numberCheck x a b)
 fit-number x a b h k = record { fits = λ s f. by-row (f .0) s (f .2) }
   where
     by-row : (t : Taken) (s : Refusal) → Row t a b s → Fits s
@@ -168,15 +182,41 @@ fit-number x a b h k = record { fits = λ s f. by-row (f .0) s (f .2) }
     by-row Beyond s r = subst Fits (sym r) (small 12 a b (omega arith) h k)
 
 fit-corners : (cs : List Corner) (n : ℕ) → n ≤ 64 → AllFit (cornersChecks cs n)
-unfolding cornersChecks
-fit-corners cs zero h = none
-fit-corners cs (suc n) h =
-    row (cornersChecks cs n) _ (fit-corners cs n (omega arith))
-    (λ p. first (fit-number (cornerAt cs n .x) n 0 (omega arith) (omega arith)) (λ p. last (fit-number (cornerAt cs n .y) n 1 (omega arith) (omega arith))))
+fit-corners cs n h =
+    fit-rows _ n λ i k. first (fit-number (cornerAt cs i .x) i 0 (omega arith) (omega arith)) (λ p. last (fit-number (cornerAt cs i .y) i 1 (omega arith) (omega arith)))
 
 pub fit-export : (xs : List Float) (size : ℕ) → AllFit (exportChecks xs size)
 unfolding exportChecks intakeChecks
 fit-export xs size = asks (omega arith) (λ p. asks (omega arith) (λ c. asks (omega arith) (λ p. fit-corners (corners xs) _ (c .most))))
+
+-- ---- files: at most 65,537 lines, and as many corners
+fit-line : (file : List ℕ) (i : ℕ) → suc i < 2 ^ 24 → AllFit (obj.lineChecks file i)
+unfolding obj.lineChecks
+fit-line file i h = demands (omega arith) h (omega arith) (λ p. demands (omega arith) h (omega arith) (λ p. demands (omega arith) h (omega arith) (λ p. none)))
+
+fit-decimal : (d : Decimal) (a b : ℕ) → a < 2 ^ 24 → b < 2 ^ 16 → AllFit (obj.decimalChecks d a b)
+unfolding obj.decimalChecks
+fit-decimal d a b h k = demands (omega arith) h k (λ p. demands (omega arith) h k (λ p. none))
+
+fit-point : (ps : List Point) (i : ℕ) → i < 2 ^ 24 → AllFit (obj.pointChecks ps i)
+fit-point ps i h = row (obj.decimalChecks _ i 0) (obj.decimalChecks _ i 1) (fit-decimal _ i 0 h (omega arith)) (λ p. fit-decimal _ i 1 h (omega arith))
+
+fit-drawn : (k : List ℤ → Piece) (size : ℕ) (ps : List Point) → length ps < 2 ^ 24 → AllFit (obj.cornersChecks k size ps)
+unfolding obj.cornersChecks
+fit-drawn k size ps h =
+    row (obj.pointsChecks ps (length ps)) _ (fit-rows (obj.pointChecks ps) (length ps) (λ i g. fit-point ps i (omega arith)))
+    (λ p. row (pieceChecks (k (obj.corners ps))) _ (fit-piece (k (obj.corners ps))) (λ p. asks (omega arith) (λ p. none)))
+
+fit-face : (k : List ℤ → Piece) (size : ℕ) (f : obj.Face) → ((ps : List Point) → f ≡ obj.drawn ps → length ps < 2 ^ 24) → AllFit (obj.faceChecks k size f)
+fit-face k size obj.none h = asks (omega arith) (λ p. none)
+fit-face k size (obj.drawn ps) h = fit-drawn k size ps (h ps refl)
+
+pub fit-obj : (file : List ℕ) (k : List ℤ → Piece) (size : ℕ) → AllFit (obj.objChecks file k size)
+unfolding obj.objChecks
+fit-obj file k size =
+    asks (omega arith) λ short.
+    row (obj.linesChecks file (length (lines file))) _ (fit-rows (obj.lineChecks file) (length (lines file)) (λ i h. fit-line file i (omega (arith, lines-few file))))
+    (λ p. fit-face k size (obj.faceIn file (length (lines file))) (λ ps e. omega (arith, face-few file (length (lines file)) ps e)))
 
 -- a lent list that is too short
 pub fit-short : Fits (refuse 10 0 0)

@@ -14,7 +14,7 @@ unfolding refusalCode
 marked s = omega arith
 
 -- the fields are where they were put
-fields : (s : Refusal) → Fits s → let c = refusalCode s in (c / 2 ^ 48 % 2 ^ 8 ≡ s .number) × (c / 2 ^ 32 % 2 ^ 16 ≡ s .block) × (c / 2 ^ 16 % 2 ^ 16 ≡ s .a) × (c % 2 ^ 16 ≡ s .b)
+fields : (s : Refusal) → Fits s → let c = refusalCode s in (c / 2 ^ 48 % 2 ^ 8 ≡ s .number) × (c / 2 ^ 40 % 2 ^ 8 ≡ s .block) × (c / 2 ^ 16 % 2 ^ 24 ≡ s .a) × (c % 2 ^ 16 ≡ s .b)
 unfolding refusalCode
 fields s f = (omega (arith, f), omega (arith, f), omega (arith, f), omega (arith, f))
 

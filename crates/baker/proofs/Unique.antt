@@ -25,12 +25,14 @@ use Rattle.block.specs.Reading.{headerAsked, runAsked, pieceAsked, HeaderSays, 
 use Rattle.block.proofs.Unique as block
 use Rattle.intake.specs.Number.{Answer}
 use Rattle.intake.proofs.Once.{one-answer, one-intake, sharp-intake}
+use Rattle.obj.specs.File.{ObjSays}
+use Rattle.obj.proofs.Unique as obj
 use Rattle.room.specs.Step.{StepSays}
 use Rattle.room.specs.Verdicts.{VerdictsSay}
 use Rattle.room.proofs.Unique as room
 use Rattle.book.specs.Ask.{AskSays}
 use Rattle.book.proofs.Unique as book
-use Rattle.baker.specs.Coded.{Coded, checkedCode, placedCode, verdictCode, headerCode, countedCode, askedCode}
+use Rattle.baker.specs.Coded.{Coded, checkedCode, placedCode, verdictCode, headerCode, countedCode, askedCode, outlineCode}
 use Rattle.baker.specs.Listed.{Out, out, runListed, pieceListed, stepListed}
 use Rattle.baker.specs.Export.{One, one, takenOne, corners, exportChecks, Exported}
 
@@ -121,3 +123,7 @@ exported-one xs before a b r s h k =
 
 pub intake-one : (xs : List Float) (before a b : List ℤ) (c d : ℕ) → Coded (Exported xs before a) checkedCode c → Coded (Exported xs before b) checkedCode d → (c ≡ d) × (a ≡ b)
 intake-one xs before a b c d = coded-lent (Exported xs before) checkedCode a b c d (exported-one xs before a b)
+
+-- ---- a footprint from a file
+pub obj-one : (file : List ℕ) (k : List ℤ → Piece) (before a b : List ℤ) (c d : ℕ) → Coded (ObjSays file k before a) outlineCode c → Coded (ObjSays file k before b) outlineCode d → (c ≡ d) × (a ≡ b)
+obj-one file k before a b c d = coded-lent (ObjSays file k before) outlineCode a b c d (obj.obj-one file k before a b)

@@ -15,6 +15,8 @@ use Rattle.block.specs.declared.HeaderRead.the-variants as header
 use Rattle.room.specs.Image.{saidIn}
 use Rattle.room.specs.declared.Counted.{Counted}
 use Rattle.room.specs.declared.Counted.the-variants as counted
+use Rattle.obj.specs.declared.Outline.{Outline}
+use Rattle.obj.specs.declared.Outline.the-variants as outline
 use Rattle.book.specs.declared.Asked.{Asked}
 use Rattle.book.specs.declared.Asked.the-variants as asked
 
@@ -24,9 +26,9 @@ pub record Coded {A B : Type 0} (S : A → Type 0) (f : A → B) (c : B) : Type 
   pub says : S answer
   pub code : c ≡ f answer
 
--- a refusal: bit 63 is set, bits 48 to 55 have the number, 32 to 47 the block, 16 to 31 a, 0 to 15 b
+-- a refusal: bit 63 is set, bits 48 to 55 have the number, 40 to 47 the block, 16 to 39 a, 0 to 15 b
 unfoldable pub refusalCode : Refusal → ℕ
-refusalCode s = 2 ^ 63 + s .number % 2 ^ 8 * 2 ^ 48 + s .block % 2 ^ 16 * 2 ^ 32 + s .a % 2 ^ 16 * 2 ^ 16 + s .b % 2 ^ 16
+refusalCode s = 2 ^ 63 + s .number % 2 ^ 8 * 2 ^ 48 + s .block % 2 ^ 8 * 2 ^ 40 + s .a % 2 ^ 24 * 2 ^ 16 + s .b % 2 ^ 16
 
 abbrev pub checkedCode : Checked → ℕ
 checkedCode checked.Good = 0
@@ -59,3 +61,8 @@ abbrev pub askedCode : Asked → ℕ
 askedCode (asked.Remembered c) = 2 ^ 32 + c
 askedCode (asked.Worked c) = c
 askedCode (asked.Refused x) = refusalCode (said x)
+
+-- the corner count
+abbrev pub outlineCode : Outline → ℕ
+outlineCode (outline.Corners n) = n
+outlineCode (outline.Refused x) = refusalCode (said x)

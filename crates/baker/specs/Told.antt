@@ -9,8 +9,8 @@ use Rattle.baker.specs.Coded.{refusalCode}
 -- each field is within the bits that it has
 pub record Fits (s : Refusal) : Type 0 where
   pub number : s .number < 2 ^ 8
-  pub block : s .block < 2 ^ 16
-  pub a : s .a < 2 ^ 16
+  pub block : s .block < 2 ^ 8
+  pub a : s .a < 2 ^ 24
   pub b : s .b < 2 ^ 16
 
 -- a number leaves bit 63 clear
@@ -25,4 +25,4 @@ code (inr s) = refusalCode s
 
 -- bit 63 first, then the fields
 unfoldable pub told : ℕ → ℕ ⊎ Refusal
-told c = cond (ltb c (2 ^ 63)) (inl c) (inr (record { number = c / 2 ^ 48 % 2 ^ 8; block = c / 2 ^ 32 % 2 ^ 16; a = c / 2 ^ 16 % 2 ^ 16; b = c % 2 ^ 16 }))
+told c = cond (ltb c (2 ^ 63)) (inl c) (inr (record { number = c / 2 ^ 48 % 2 ^ 8; block = c / 2 ^ 40 % 2 ^ 8; a = c / 2 ^ 16 % 2 ^ 24; b = c % 2 ^ 16 }))

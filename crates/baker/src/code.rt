@@ -1,6 +1,7 @@
 // Each answer as one number.
 use block::HeaderRead;
 use book::Asked;
+use obj::Outline;
 use piece::Placed;
 use piece::Verdict;
 use refusal::Checked;
@@ -10,14 +11,14 @@ use room::Counted;
 ghost use mathlib.Core.Path.{_≡_};
 ghost use Rattle.refusal.specs.Said.{said};
 ghost use Rattle.room.specs.Image.{saidIn};
-ghost use Rattle.baker.specs.Coded.{refusalCode, checkedCode, placedCode, verdictCode, headerCode, countedCode, askedCode};
+ghost use Rattle.baker.specs.Coded.{refusalCode, checkedCode, placedCode, verdictCode, headerCode, countedCode, askedCode, outlineCode};
 
 fn packed(number: u64, block: u64, a: u64, b: u64) -> u64
     ensures { λ r. ⌜ r ≡ refusalCode (record { number = number; block = block; a = a; b = b }) ⌝ }
 {
     let high = 0x8000_0000_0000_0000u64 + number % 0x100 * 0x1_0000_0000_0000;
-    let middle = high + block % 0x1_0000 * 0x1_0000_0000;
-    middle + a % 0x1_0000 * 0x1_0000 + b % 0x1_0000
+    let middle = high + block % 0x100 * 0x100_0000_0000;
+    middle + a % 0x100_0000 * 0x1_0000 + b % 0x1_0000
 }
 
 // A refusal in a block of a room.
@@ -90,5 +91,14 @@ pub(crate) fn asked(r: Asked) -> u64
         Asked::Remembered(c) => 0x1_0000_0000 + c as u64,
         Asked::Worked(c) => c as u64,
         Asked::Refused(x) => refusal(x),
+    }
+}
+
+pub(crate) fn outline(r: Outline) -> u64
+    ensures { λ c. ⌜ c ≡ outlineCode r ⌝ }
+{
+    match r {
+        Outline::Corners(n) => n as u64,
+        Outline::Refused(x) => refusal(x),
     }
 }

@@ -2,6 +2,7 @@
 mod blocks;
 mod code;
 mod export;
+mod files;
 mod given;
 mod list;
 mod numbers;

@@ -12,6 +12,7 @@ use refusal::Refusal;
 use refusal::row_of;
 
 mod books;
+mod files;
 
 const Q: [i32; 8] = [0, 0, 64, 0, 64, 64, 0, 64];
 
@@ -75,14 +76,14 @@ fn told(v: Verdict) -> u32 {
     }
 }
 
-// A refusal as number, a, b in one; no more than 16 bits of each.
+// A refusal as number, a, b in one; no more than 8, 24 and 16 bits of them.
 fn coded(r: Refusal) -> u64 {
     let row = row_of(r);
     three(row.0, row.1, row.2)
 }
 
 fn three(n: usize, a: usize, b: usize) -> u64 {
-    ((n % 256) * 4294967296 + (a % 65536) * 65536 + b % 65536) as u64
+    ((n % 256) * 1099511627776 + (a % 16777216) * 65536 + b % 65536) as u64
 }
 
 fn refused(c: Checked) -> u64 {
@@ -238,7 +239,7 @@ fn numbers(s: Score) -> Score {
 fn main() {
     let s = Score { right: 0, all: 0 };
     let s = numbers(lengths(footprints(places(runs(s)))));
-    let s = books::books(s);
+    let s = files::files(books::books(s));
     io::print_decimal(STDOUT_FILENO, s.right as u64);
     io::write_all(STDOUT_FILENO, b" right of ");
     io::print_decimal(STDOUT_FILENO, s.all as u64);

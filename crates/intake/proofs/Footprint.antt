@@ -2,9 +2,8 @@
 use mathlib.Core.Path.{_≡_, refl, sym, subst, _∙_}
 use mathlib.Core.Logic.{inl, inr}
 use mathlib.Core.List.{List}
-use Prim.Native.Nat.{ℕ, zero, suc, _+_, _*_, _-_, _≤_, _<_}
+use Prim.Native.Nat.{ℕ, _+_, _*_, _≤_, _<_}
 use native.Mathlib.Omega.{arith}
-use native.Mathlib.Nat.{add-suc, add-zero}
 use lib.IntN.{ℤ, pos}
 use lib.ListN.{length, getD, set, take, length-set}
 use lib.Seq.{getD-set-same, getD-set-other, getD-take, length-take-le}
@@ -12,9 +11,8 @@ use borrow.Author.Count.{below-more}
 use Rattle.whole.specs.Front.{Front, fronted}
 use Rattle.whole.proofs.Front.{front-made}
 use Rattle.rules.specs.Reach.{Corners}
-use Rattle.rules.specs.Refusal as rules
 use Rattle.rules.specs.Refusal.{Passes, Fault}
-use Rattle.rules.proofs.Checks.{passes-append, fault-left, fault-right}
+use Rattle.rules.proofs.Checks.{rows-pass}
 use Rattle.refusal.specs.Said.{said, Finds}
 use Rattle.refusal.specs.declared.Refusal.{Refusal}
 use Rattle.refusal.specs.declared.Refusal.the-variants.{Corners as Corners', Short}
@@ -22,7 +20,7 @@ use Rattle.refusal.specs.declared.Checked.the-variants.{Good, Refused}
 use Rattle.intake.specs.declared.Taken.the-variants.{Grid}
 use Rattle.intake.specs.declared.Corner.{Corner}
 use Rattle.intake.specs.Number.{Answer}
-use Rattle.intake.specs.Footprint.{cornerChecks, cornerAt, cornersChecks, intakeChecks, Holds, Later}
+use Rattle.intake.specs.Footprint.{cornerAt, cornersChecks, intakeChecks, Holds, Later}
 
 -- ---- one more corner into a list
 module _ (cs : List Corner) (i : ℕ) (l : List ℤ) (x y : ℤ) where
@@ -44,26 +42,8 @@ module _ (cs : List Corner) (i : ℕ) (l : List ℤ) (x y : ℤ) where
       later = set first (2 * i + 1) y
 
 -- ---- what the checks find
-holds-less : (cs : List Corner) (n : ℕ) (l : List ℤ) → Holds cs (suc n) l → Holds cs n l
-holds-less cs n l h = record { x = λ i lt. h .x i (omega arith); y = λ i lt. h .y i (omega arith) }
-
 pub holds-pass : (cs : List Corner) (n : ℕ) (l : List ℤ) → Holds cs n l → Passes (cornersChecks cs n)
-unfolding cornersChecks
-holds-pass cs zero l h = tt
-holds-pass cs (suc n) l h =
-    passes-append (cornersChecks cs n) (cornerChecks (cornerAt cs n) n) (holds-pass cs n l (holds-less cs n l h)) ((_, h .x n (omega arith)), ((_, h .y n (omega arith)), tt))
-
-module _ (cs : List Corner) (s : rules.Refusal) where
-  fault-more : (k d : ℕ) → Fault (cornersChecks cs k) s → Fault (cornersChecks cs (k + d)) s
-  unfolding cornersChecks
-  fault-more k zero f = rw (add-zero k) f
-  fault-more k (suc d) f = rw (add-suc k d) (fault-left (cornersChecks cs (k + d)) (cornerChecks (cornerAt cs (k + d)) (k + d)) s (fault-more k d f))
-
-  pub fault-at : (i n : ℕ) → i < n → Passes (cornersChecks cs i) → Fault (cornerChecks (cornerAt cs i) i) s → Fault (cornersChecks cs n) s
-  unfolding cornersChecks
-  fault-at i n h p f =
-      let e : suc i + (n - suc i) ≡ n = omega arith in
-      rw e at (fault-more (suc i) (n - suc i) (fault-right (cornersChecks cs i) (cornerChecks (cornerAt cs i) i) s p f))
+holds-pass cs n l h = rows-pass _ n (λ i k. ((_, h .x i k), ((_, h .y i k), tt)))
 
 -- ---- the checks of an intake, one after the other
 module _ (cs : List Corner) (n size : ℕ) where

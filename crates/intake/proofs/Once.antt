@@ -2,7 +2,7 @@
 use mathlib.Core.Path.{_≡_, refl, sym, ap, subst, _∙_}
 use mathlib.Core.Logic.{_⊎_, inl, inr, ⊎-elim}
 use mathlib.Core.List.{List}
-use Prim.Native.Nat.{ℕ, zero, suc, _+_, _*_, _/_, _≤_, _<_}
+use Prim.Native.Nat.{ℕ, _+_, _*_, _/_, _≤_, _<_}
 use native.Mathlib.Omega.{arith}
 use lib.Dec.{lit<}
 use lib.IntN.{ℤ, pos, natAbs, _+ℤ_}
@@ -17,7 +17,7 @@ use Rattle.whole.proofs.Fraction.{le-then-lt, lt-then-le}
 use Rattle.rules.specs.Reach.{Corners}
 use Rattle.rules.specs.Refusal as rules
 use Rattle.rules.specs.Refusal.{refuse}
-use Rattle.rules.proofs.Checks.{Sharp, AllSharp, sharp-demand, sharp-append}
+use Rattle.rules.proofs.Checks.{Sharp, AllSharp, sharp-demand, sharp-rows}
 use Rattle.refusal.specs.Said.{Writes}
 use Rattle.refusal.specs.declared.Checked.{Checked}
 use Rattle.refusal.specs.declared.Checked.the-variants.{Good, Refused}
@@ -25,7 +25,7 @@ use Rattle.intake.specs.declared.Corner.{Corner}
 use Rattle.intake.specs.declared.Taken.{Taken}
 use Rattle.intake.specs.declared.Taken.the-variants.{Grid, OffGrid, NotNumber, Beyond}
 use Rattle.intake.specs.Number.{value, grid, Off, Export, Worth, Answer}
-use Rattle.intake.specs.Footprint.{putChecks, Row, numberCheck, cornerChecks, cornerAt, cornersChecks, intakeChecks, Holds, Later, Intake}
+use Rattle.intake.specs.Footprint.{putChecks, Row, numberCheck, cornerAt, cornersChecks, intakeChecks, Holds, Later, Intake}
 use Rattle.intake.proofs.Value.{≈-≼, ≈-sym}
 use Rattle.intake.proofs.Bits.{one-value}
 use Rattle.intake.proofs.Exact.{minus, export-has}
@@ -88,11 +88,7 @@ sharp-number x a b =
     }
 
 sharp-corners : (cs : List Corner) (n : ℕ) → AllSharp (cornersChecks cs n)
-unfolding cornersChecks
-sharp-corners cs zero = tt
-sharp-corners cs (suc n) =
-    let c = cornerAt cs n in
-    sharp-append (cornersChecks cs n) (cornerChecks c n) (sharp-corners cs n) (sharp-number (c .x) n 0, (sharp-number (c .y) n 1, tt))
+sharp-corners cs = sharp-rows _ λ a. let c = cornerAt cs a in (sharp-number (c .x) a 0, (sharp-number (c .y) a 1, tt))
 
 pub sharp-intake : (cs : List Corner) (n size : ℕ) → AllSharp (intakeChecks cs n size)
 unfolding intakeChecks

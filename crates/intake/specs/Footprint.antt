@@ -1,14 +1,14 @@
 -- "From the modelling package": a whole footprint into a lent list, corner by corner. Assumes nothing.
 use mathlib.Core.Path.{_≡_}
-use mathlib.Core.List.{List, [], _∷_, _++_}
-use Prim.Native.Nat.{ℕ, zero, suc, _+_, _*_, _<_, _≤_}
+use mathlib.Core.List.{List, [], _∷_}
+use Prim.Native.Nat.{ℕ, _+_, _*_, _<_, _≤_}
 use lib.IntN.{ℤ, pos}
 use lib.ListN.{length, getD}
 use lib.Ieee.{Float, nan}
 use Rattle.whole.specs.Front.{Stays}
 use Rattle.rules.specs.Reach.{Corners}
 use Rattle.rules.specs.Refusal as rules
-use Rattle.rules.specs.Refusal.{Check, Fault, demand, refuse}
+use Rattle.rules.specs.Refusal.{Check, Fault, demand, refuse, rows}
 use Rattle.refusal.specs.Said.{said, Finds}
 use Rattle.refusal.specs.declared.Refusal.{Refusal}
 use Rattle.refusal.specs.declared.Checked.{Checked}
@@ -40,13 +40,11 @@ abbrev pub cornerAt : List Corner → ℕ → Corner
 cornerAt cs a = getD cs a (record { x = nan; y = nan })
 
 -- corner by corner, the first n
-unfoldable pub cornersChecks : List Corner → ℕ → List Check
-cornersChecks cs zero = []
-cornersChecks cs (suc n) = cornersChecks cs n ++ cornerChecks (cornerAt cs n) n
+abbrev pub cornersChecks : List Corner → ℕ → List Check
+cornersChecks cs n = rows (λ a. cornerChecks (cornerAt cs a) a) n
 
 -- the checks of an intake of n corners into a list of some length, in their order
 unfoldable pub intakeChecks : List Corner → ℕ → ℕ → List Check
-unfolding cornersChecks
 intakeChecks cs n size = demand (Corners n) (refuse 5 0 0) ∷ demand (2 * n ≤ size) (refuse 10 0 0) ∷ cornersChecks cs n
 
 -- the first n corners in a list, x then y

@@ -9,7 +9,7 @@ use Rattle.rules.specs.Refusal.{Check as Test, Passes, Fault}
 use Rattle.rules.proofs.Checks.{AllSharp, never-both, one-fault}
 use Rattle.refusal.specs.Said.{said, RowOf, Finds, Writes}
 use Rattle.refusal.specs.declared.Refusal.{Refusal}
-use Rattle.refusal.specs.declared.Refusal.the-variants.{Length, Check, Kind, Reach, Corners, Same, Fold, Meet, Clockwise, Short, NotNumber, Beyond, OffGrid}
+use Rattle.refusal.specs.declared.Refusal.the-variants.{Length, Check, Kind, Reach, Corners, Same, Fold, Meet, Clockwise, Short, NotNumber, Beyond, OffGrid, Line, Index, Face}
 use Rattle.refusal.specs.declared.Row.{Row}
 use Rattle.refusal.specs.declared.Checked.{Checked}
 use Rattle.refusal.specs.declared.Checked.the-variants.{Good, Refused}
@@ -18,7 +18,8 @@ use Rattle.refusal.specs.declared.Checked.the-variants.{Good, Refused}
 case : ℕ → ℕ → ℕ → Refusal
 case n a b =
     cond (eqb n 1) Length (cond (eqb n 2) Check (cond (eqb n 3) (Kind a) (cond (eqb n 4) (Reach a) (cond (eqb n 5) Corners (cond (eqb n 6) (Same a)
-    (cond (eqb n 7) (Fold a) (cond (eqb n 8) (Meet a b) (cond (eqb n 9) Clockwise (cond (eqb n 10) Short (cond (eqb n 11) (NotNumber a b) (cond (eqb n 12) (Beyond a b) (OffGrid a b))))))))))))
+    (cond (eqb n 7) (Fold a) (cond (eqb n 8) (Meet a b) (cond (eqb n 9) Clockwise (cond (eqb n 10) Short (cond (eqb n 11) (NotNumber a b) (cond (eqb n 12) (Beyond a b) (cond (eqb n 13) (OffGrid a b)
+    (cond (eqb n 14) (Line a) (cond (eqb n 15) (Index a) (Face a)))))))))))))))
 
 back : (r : Refusal) → case (said r .number) (said r .a) (said r .b) ≡ r
 unfolding case
@@ -35,6 +36,9 @@ back Short = refl
 back (NotNumber a b) = refl
 back (Beyond a b) = refl
 back (OffGrid a b) = refl
+back (Line a) = refl
+back (Index a) = refl
+back (Face a) = refl
 
 -- two that say the same are equal
 pub said-one : (r s : Refusal) → said r ≡ said s → r ≡ s

@@ -4,7 +4,7 @@ use mathlib.Core.List.{List}
 use Rattle.rules.specs.Refusal as rules
 use Rattle.rules.specs.Refusal.{refuse, Check as Test, Passes, Fault}
 use Rattle.refusal.specs.declared.Refusal.{Refusal}
-use Rattle.refusal.specs.declared.Refusal.the-variants.{Length, Check, Kind, Reach, Corners, Same, Fold, Meet, Clockwise, Short, NotNumber, Beyond, OffGrid}
+use Rattle.refusal.specs.declared.Refusal.the-variants.{Length, Check, Kind, Reach, Corners, Same, Fold, Meet, Clockwise, Short, NotNumber, Beyond, OffGrid, Line, Index, Face}
 use Rattle.refusal.specs.declared.Row.{Row}
 use Rattle.refusal.specs.declared.Checked.{Checked}
 use Rattle.refusal.specs.declared.Checked.the-variants.{Good, Refused}
@@ -23,6 +23,9 @@ said Short = refuse 10 0 0
 said (NotNumber a b) = refuse 11 a b
 said (Beyond a b) = refuse 12 a b
 said (OffGrid a b) = refuse 13 a b
+said (Line a) = refuse 14 a 0
+said (Index a) = refuse 15 a 0
+said (Face a) = refuse 16 a 0
 
 -- r is the row of x
 abbrev pub RowOf : Refusal → Row → Type 0

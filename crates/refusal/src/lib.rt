@@ -26,6 +26,12 @@ pub enum Refusal {
     NotNumber(usize, usize),
     Beyond(usize, usize),
     OffGrid(usize, usize),
+    // a line of an OBJ file that is none of those that are read or passed over
+    Line(usize),
+    // a face with an index that names no vertex above it: its line
+    Index(usize),
+    // a second face: its line; or, with 0, no face
+    Face(usize),
 }
 
 // What a check finds.
@@ -54,5 +60,8 @@ pub fn row_of(x: Refusal) -> Row
         Refusal::NotNumber(a, b) => Row(11, a, b),
         Refusal::Beyond(a, b) => Row(12, a, b),
         Refusal::OffGrid(a, b) => Row(13, a, b),
+        Refusal::Line(a) => Row(14, a, 0),
+        Refusal::Index(a) => Row(15, a, 0),
+        Refusal::Face(a) => Row(16, a, 0),
     }
 }

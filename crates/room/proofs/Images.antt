@@ -10,7 +10,7 @@ use Rattle.rules.specs.Refusal.{refuse, Check, Passes, Fault, demand}
 use Rattle.rules.specs.Reach.{Pieces}
 use Rattle.rules.proofs.Checks.{passes-append, passes-left, passes-right, fault-left, fault-right}
 use Rattle.refusal.specs.declared.Refusal.{Refusal}
-use Rattle.refusal.specs.declared.Refusal.the-variants.{Length, Check as Seal, Kind, Reach, Corners, Same, Fold, Meet, Clockwise, Short, NotNumber, Beyond, OffGrid}
+use Rattle.refusal.specs.declared.Refusal.the-variants.{Length, Check as Seal, Kind, Reach, Corners, Same, Fold, Meet, Clockwise, Short, NotNumber, Beyond, OffGrid, Line, Index, Face}
 use Rattle.refusal.specs.Said.{said}
 use Rattle.block.specs.Layout.{byte, blockAt}
 use Rattle.block.specs.Reading.{headerChecks, HeaderSays}
@@ -35,6 +35,9 @@ said-zero Short = refl
 said-zero (NotNumber a b) = refl
 said-zero (Beyond a b) = refl
 said-zero (OffGrid a b) = refl
+said-zero (Line a) = refl
+said-zero (Index a) = refl
+said-zero (Face a) = refl
 
 pub fault-zero : (cs : List Check) (x : Refusal) → Fault cs (said x) → Fault cs (saidIn x 0)
 fault-zero cs x f = subst (λ (r : rules.Refusal). Fault cs r) (sym (said-zero x)) f

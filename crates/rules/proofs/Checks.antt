@@ -2,10 +2,11 @@
 use mathlib.Core.Path.{_≡_, sym, ap, _∙_}
 use mathlib.Core.Logic.{inl, inr, ⊎-elim}
 use mathlib.Core.List.{List, [], _∷_, _++_}
-use Prim.Native.Nat.{ℕ, _≤_, _<_}
+use Prim.Native.Nat.{ℕ, zero, suc, _+_, _-_, _≤_, _<_}
 use native.Mathlib.Omega.{arith}
+use native.Mathlib.Nat.{add-suc, add-zero}
 use Rattle.whole.proofs.Order.{ℕ-or}
-use Rattle.rules.specs.Refusal.{Refusal, Check, Passes, Fault, demand, First, each}
+use Rattle.rules.specs.Refusal.{Refusal, Check, Passes, Fault, demand, First, each, rows}
 
 -- ---- the first of several
 -- the same index, from what rules out an earlier one each way
@@ -81,3 +82,26 @@ fault-past (c ∷ cs) ds a r p f = ⊎-elim (λ h. absurd (a .0 .never r (p .0) 
 pub fault-within : (cs ds : List Check) (r : Refusal) → (Passes cs → Fault ds r → ⊥) → Fault (cs ++ ds) r → Fault cs r
 fault-within [] ds r n f = n tt f
 fault-within (c ∷ cs) ds r n f = ⊎-elim (λ h. inl h) (λ h. inr (h .0, fault-within cs ds r (λ p g. n (h .0, p) g) (h .1))) f
+
+-- ---- lists of checks, one after the other
+module _ (f : ℕ → List Check) where
+  pub sharp-rows : ((i : ℕ) → AllSharp (f i)) → (n : ℕ) → AllSharp (rows f n)
+  unfolding rows
+  sharp-rows a zero = tt
+  sharp-rows a (suc n) = sharp-append (rows f n) (f n) (sharp-rows a n) (a n)
+
+  pub rows-pass : (n : ℕ) → ((i : ℕ) → i < n → Passes (f i)) → Passes (rows f n)
+  unfolding rows
+  rows-pass zero h = tt
+  rows-pass (suc n) h = passes-append (rows f n) (f n) (rows-pass n (λ i k. h i (omega arith))) (h n (omega arith))
+
+  rows-more : (r : Refusal) (k d : ℕ) → Fault (rows f k) r → Fault (rows f (k + d)) r
+  unfolding rows
+  rows-more r k zero h = rw (add-zero k) h
+  rows-more r k (suc d) h = rw (add-suc k d) (fault-left (rows f (k + d)) (f (k + d)) r (rows-more r k d h))
+
+  -- the first fault is where those before pass
+  pub rows-fault : (r : Refusal) (i n : ℕ) → i < n → Passes (rows f i) → Fault (f i) r → Fault (rows f n) r
+  unfolding rows
+  rows-fault r i n h p g =
+      let e : suc i + (n - suc i) ≡ n = omega arith in rw e at (rows-more r (suc i) (n - suc i) (fault-right (rows f i) (f i) r p g))

@@ -1,8 +1,8 @@
 -- "What comes back when it can't be done": refusals, and the order in which checks are made. Assumes nothing.
 use mathlib.Core.Path.{_≡_}
 use mathlib.Core.Logic.{_⊎_}
-use mathlib.Core.List.{List, [], _∷_}
-use Prim.Native.Nat.{ℕ, _<_}
+use mathlib.Core.List.{List, [], _∷_, _++_}
+use Prim.Native.Nat.{ℕ, zero, suc, _<_}
 
 -- a number, a block and two places
 pub record Refusal : Type 0 where
@@ -43,3 +43,8 @@ pub record First (Bad : ℕ → Type 0) (n i : ℕ) : Type 0 where
 -- none of n numbers is Bad; otherwise the first one gives the refusal
 abbrev pub each : (ℕ → Type 0) → ℕ → (ℕ → Refusal) → Check
 each Bad n r = record { passes = (j : ℕ) → j < n → Bad j → ⊥; fails = λ s. (i : ℕ) × First Bad n i × (s ≡ r i) }
+
+-- one list of checks after the other, the first n
+unfoldable pub rows : (ℕ → List Check) → ℕ → List Check
+rows f zero = []
+rows f (suc n) = rows f n ++ f n

@@ -97,3 +97,10 @@ pub fn intake(numbers: &[f32], list: &mut [i32]) -> u64 {
     // SAFETY: as in `write_header`.
     unsafe { sys::baker_intake(numbers.as_ptr(), numbers.len(), list.as_mut_ptr(), list.len()) }
 }
+
+pub fn obj(file: &[u8], bottom: i32, top: i32, velocity: [i32; 3], list: &mut [i32]) -> u64 {
+    let [vx, vy, vz] = velocity;
+    let (bytes, length) = (file.as_ptr(), file.len());
+    // SAFETY: as in `write_header`.
+    unsafe { sys::baker_obj(bytes, length, bottom, top, vx, vy, vz, list.as_mut_ptr(), list.len()) }
+}

@@ -30,7 +30,7 @@ pub struct Piece<'a> {
 pub struct Refusal {
     pub number: u8,
     pub block: u16,
-    pub a: u16,
+    pub a: u32,
     pub b: u16,
 }
 
@@ -94,8 +94,8 @@ fn answer(coded: u64) -> Result<u32, Refusal> {
     }
     Err(Refusal {
         number: (coded >> 48) as u8,
-        block: (coded >> 32) as u16,
-        a: (coded >> 16) as u16,
+        block: (coded >> 40 & 0xff) as u16,
+        a: (coded >> 16 & 0xff_ffff) as u32,
         b: coded as u16,
     })
 }
@@ -199,6 +199,19 @@ pub fn intake(numbers: &[f32], list: &mut [i32]) -> Result<(), Refusal> {
     answer(coded::intake(numbers, list)).map(|_| ())
 }
 
+/// The footprint that is the one face of a Wavefront OBJ file, checked with this band and velocity:
+/// fills the list with its corners as x, y, x, y and gives the corner count. What lines a file may
+/// have, and the order of the refusals, is said in `include/baker.h`.
+pub fn obj(
+    file: &[u8],
+    bottom: i32,
+    top: i32,
+    velocity: [i32; 3],
+    list: &mut [i32],
+) -> Result<usize, Refusal> {
+    answer(coded::obj(file, bottom, top, velocity, list)).map(|corners| corners as usize)
+}
+
 #[cfg(test)]
 mod tests {
     use super::*;
@@ -213,8 +226,13 @@ mod tests {
     fn answers_are_taken_apart() {
         assert_eq!(answer(0xffff_ffff), Ok(u32::MAX));
         assert_eq!(answer(1 << 32 | 7), Ok(7));
-        let coded = 1 << 63 | 8 << 48 | 3 << 32 | 5 << 16 | 9;
+        let coded = 1 << 63 | 8 << 48 | 3 << 40 | 5 << 16 | 9;
         assert_eq!(answer(coded), Err(Refusal { number: 8, block: 3, a: 5, b: 9 }));
+        // the largest of each, and the line that needs 17 bits
+        let most = Refusal { number: 255, block: 255, a: 0xff_ffff, b: 65_535 };
+        assert_eq!(answer(0x80ff_ffff_ffff_ffff), Err(most));
+        let last_line = Refusal { number: 14, block: 0, a: 65_536, b: 0 };
+        assert_eq!(answer(0x800e_0001_0000_0000), Err(last_line));
     }
 
     /// The typed calls over the static library, where it is there.
@@ -261,5 +279,17 @@ mod tests {
         let mut list = [7; 7];
         assert_eq!(intake(&[0.0, 0.0, 1.0, 0.0, 0.0, 1.0], &mut list), Ok(()));
         assert_eq!(list, [0, 0, 16, 0, 0, 16, 7]);
+
+        let file = b"# chair\nv 0 9 0\nv 4 9 0\nv 0 9 -0.5\nf 1 2//1 -1/7\r\n";
+        let mut list = [7; 7];
+        assert_eq!(obj(file, 0, 32, [0; 3], &mut list), Ok(3));
+        assert_eq!(list, [0, 0, 64, 0, 0, 8, 7]);
+        assert_eq!(obj(file, 0, 32, [0, 256, 0], &mut list), Err(refused(4, 8)));
+        assert_eq!(obj(file, 0, 32, [0; 3], &mut list[..5]), Err(refused(10, 0)));
+        assert_eq!(obj(&file[..file.len() - 1], 0, 32, [0; 3], &mut list), Err(refused(14, 5)));
+        let mut feeds = [b'\n'; 65_536];
+        feeds[65_535] = b'x';
+        assert_eq!(obj(&feeds, 0, 32, [0; 3], &mut list), Err(refused(14, 65_536)));
+        assert_eq!(list, [0, 0, 64, 0, 0, 8, 7]);
     }
 }

@@ -1,7 +1,7 @@
 //! Every function of the static library, declared once.
 //!
 //! A slice is passed as a pointer and a length. An answer is one `u64`: bit 63 is set for a refusal,
-//! which then has its number in bits 48 to 55, its block in bits 32 to 47, a in bits 16 to 31 and b
+//! which then has its number in bits 48 to 55, its block in bits 40 to 47, a in bits 16 to 39 and b
 //! in bits 0 to 15. Otherwise the value stands in the low 32 bits, as said beside each function.
 
 macro_rules! library {
@@ -98,5 +98,12 @@ library! {
     /// 0, and the grid numbers in the list
     fn baker_intake(
         numbers: *const f32, numbers_len: usize, list: *mut i32, list_len: usize,
+    ) -> u64;
+
+    /// the corner count, and as many x and y in the list; what is past them stays. A list under two
+    /// numbers a corner is 10, after all other refusals.
+    fn baker_obj(
+        file: *const u8, file_len: usize, bottom: i32, top: i32, vx: i32, vy: i32, vz: i32,
+        list: *mut i32, list_len: usize,
     ) -> u64;
 }

@@ -2,6 +2,7 @@
 //! counterpart. Each figure is the best of several repeats; the ratio is how many times as long the
 //! proved one takes.
 
+mod files;
 mod scenes;
 
 use differ::{Baker, Calls, Plain};
@@ -104,6 +105,28 @@ fn rows() -> Vec<Row> {
         black_box(&list);
         corners.len()
     }));
+    rows.extend(objs());
+    rows
+}
+
+/// OBJ files by their bytes, and small ones by their number.
+fn objs() -> Vec<Row> {
+    let mut rows = Vec::new();
+    for (name, file) in [
+        ("obj of 64 KB, v as exported, 4 corners", files::exported(4)),
+        ("obj of 64 KB, v as exported, 64 corners", files::exported(64)),
+        ("obj of 64 KB, the shortest v", files::shortest_lines()),
+    ] {
+        rows.push(row(name, "bytes", move |calls| {
+            obj(calls, &file);
+            file.len()
+        }));
+    }
+    let file = files::small();
+    rows.push(row("obj of 1 KB as exported, 4 corners", "files", move |calls| {
+        (0..64).for_each(|_| obj(calls, &file));
+        64
+    }));
     rows
 }
 
@@ -158,6 +181,12 @@ fn rooms(calls: &dyn Calls, runs: &[Run], image: &[u8]) -> usize {
         black_box(&list);
     }
     runs.len()
+}
+
+fn obj(calls: &dyn Calls, file: &[u8]) {
+    let mut list = [0; 128];
+    black_box(calls.obj(black_box(file), 0, 400, [0; 3], &mut list));
+    black_box(&list);
 }
 
 /// Every run asked against every piece of the typical room, with a book of 128 slots.

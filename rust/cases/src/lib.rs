@@ -6,6 +6,7 @@ pub mod bodies;
 pub mod books;
 pub mod floats;
 pub mod footprints;
+pub mod obj;
 pub mod rng;
 
 pub use rng::Rng;

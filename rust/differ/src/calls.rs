@@ -21,6 +21,7 @@ pub trait Calls: Sync {
     fn ask(&self, book: &mut [u8], run: &Run, piece: &Piece) -> u64;
     fn take(&self, x: f32, grid: &mut i32, floor: &mut f32) -> u64;
     fn intake(&self, numbers: &[f32], list: &mut [i32]) -> u64;
+    fn obj(&self, file: &[u8], bottom: i32, top: i32, velocity: [i32; 3], list: &mut [i32]) -> u64;
 }
 
 const RUN_NUMBERS: usize = 7;
@@ -150,6 +151,10 @@ impl Calls for Second {
     fn intake(&self, numbers: &[f32], list: &mut [i32]) -> u64 {
         second_code(second::intake::intake(numbers, list), |()| 0)
     }
+
+    fn obj(&self, file: &[u8], bottom: i32, top: i32, velocity: [i32; 3], list: &mut [i32]) -> u64 {
+        second_code(second::obj::footprint(file, bottom, top, velocity, list), |corners| corners as u64)
+    }
 }
 
 /// The plain counterpart.
@@ -263,6 +268,10 @@ impl Calls for Plain {
     fn intake(&self, numbers: &[f32], list: &mut [i32]) -> u64 {
         plain_code(plain::intake(numbers, list), |()| 0)
     }
+
+    fn obj(&self, file: &[u8], bottom: i32, top: i32, velocity: [i32; 3], list: &mut [i32]) -> u64 {
+        plain_code(plain::obj::footprint(file, bottom, top, velocity, list), |corners| corners as u64)
+    }
 }
 
 /// The proved one, through the static library.
@@ -339,5 +348,9 @@ impl Calls for Baker {
 
     fn intake(&self, numbers: &[f32], list: &mut [i32]) -> u64 {
         baker::coded::intake(numbers, list)
+    }
+
+    fn obj(&self, file: &[u8], bottom: i32, top: i32, velocity: [i32; 3], list: &mut [i32]) -> u64 {
+        baker::coded::obj(file, bottom, top, velocity, list)
     }
 }

@@ -2,7 +2,7 @@
 
 use crate::calls::Calls;
 use crate::code;
-use gen::{blocks, bodies, books, floats, footprints, Rng};
+use gen::{blocks, bodies, books, floats, footprints, obj, Rng};
 use second::{Piece, Run};
 use std::fmt::{self, Write};
 
@@ -23,10 +23,11 @@ pub enum Call {
     Ask,
     Take,
     Intake,
+    Obj,
 }
 
 impl Call {
-    pub const ALL: [Call; 15] = [
+    pub const ALL: [Call; 16] = [
         Call::CheckRun,
         Call::CheckPiece,
         Call::Place,
@@ -42,6 +43,7 @@ impl Call {
         Call::Ask,
         Call::Take,
         Call::Intake,
+        Call::Obj,
     ];
 
     pub fn name(self) -> &'static str {
@@ -61,6 +63,7 @@ impl Call {
             Call::Ask => "ask",
             Call::Take => "take",
             Call::Intake => "intake",
+            Call::Obj => "obj",
         }
     }
 
@@ -82,13 +85,14 @@ impl Call {
             Call::Ask => &["1", "4", "5", "6", "7", "8", "9", "clear", "at once", "later", "remembered"],
             Call::Take => &["taken", "off grid", "not a number", "out of reach"],
             Call::Intake => &["5", "10", "11", "12", "13", "done"],
+            Call::Obj => &["1", "4", "5", "6", "7", "8", "9", "10", "12", "13", "14", "15", "16", "some"],
         }
     }
 
     /// Which kind an answer is: a refusal number or one of the words above.
     pub fn kind(self, answer: u64) -> &'static str {
-        const NUMBERS: [&str; 14] =
-            ["0", "1", "2", "3", "4", "5", "6", "7", "8", "9", "10", "11", "12", "13"];
+        const NUMBERS: [&str; 17] =
+            ["0", "1", "2", "3", "4", "5", "6", "7", "8", "9", "10", "11", "12", "13", "14", "15", "16"];
         if let Some(number) = code::number(answer) {
             return NUMBERS.get(number as usize).unwrap_or(&"unknown");
         }
@@ -102,7 +106,7 @@ impl Call {
                 0 => "at once",
                 _ => "later",
             },
-            Call::ReadHeader | Call::ReadPiece | Call::RoomPiece | Call::RoomVerdicts => {
+            Call::ReadHeader | Call::ReadPiece | Call::RoomPiece | Call::RoomVerdicts | Call::Obj => {
                 word(&["none"]).unwrap_or("some")
             }
             _ => word(&["done"]).unwrap_or("unknown"),
@@ -127,6 +131,7 @@ pub enum Input {
     Ask(Vec<u8>, Run, Piece),
     Take(f32, i32, f32),
     Intake(Vec<f32>, Vec<i32>),
+    Obj(obj::Given, Vec<i32>),
 }
 
 /// A coded answer and what was lent, as bytes, after the call.
@@ -216,6 +221,11 @@ impl Input {
                 let list = lent_list(rng, numbers.len());
                 Input::Intake(numbers, list)
             }
+            Call::Obj => {
+                let given = obj::any(rng);
+                let list = lent_list(rng, given.numbers);
+                Input::Obj(given, list)
+            }
         }
     }
 
@@ -269,6 +279,11 @@ impl Input {
             Input::Intake(numbers, list) => {
                 let mut list = list.clone();
                 outcome(calls.intake(numbers, &mut list), bytes(&list))
+            }
+            Input::Obj(given, list) => {
+                let mut list = list.clone();
+                let obj::Given { file, bottom, top, velocity, .. } = given;
+                outcome(calls.obj(file, *bottom, *top, *velocity, &mut list), bytes(&list))
             }
         }
     }
@@ -332,6 +347,11 @@ impl fmt::Display for Input {
                 let bits: Vec<String> = numbers.iter().map(|x| format!("{:#010x}", x.to_bits())).collect();
                 writeln!(f, "  numbers {numbers:?}\n  bits {}\n  list {list:?}", bits.join(" "))
             }
+            Input::Obj(given, list) => {
+                let obj::Given { file, bottom, top, velocity, .. } = given;
+                writeln!(f, "  band {bottom} {top} velocity {velocity:?}\n  list {list:?}")?;
+                show_file(f, file)
+            }
         }
     }
 }
@@ -343,6 +363,20 @@ fn show_run(f: &mut fmt::Formatter, run: &Run) -> fmt::Result {
 fn show_piece(f: &mut fmt::Formatter, piece: &Piece) -> fmt::Result {
     let Piece { bottom, top, velocity, corners } = piece;
     writeln!(f, "  piece {bottom} {top} {velocity:?} corners {corners:?}")
+}
+
+/// A file line by line, each with its number and as a byte string; lines that repeat stand there once.
+fn show_file(f: &mut fmt::Formatter, file: &[u8]) -> fmt::Result {
+    writeln!(f, "  file of {} bytes", file.len())?;
+    let mut number = 1;
+    let lines: Vec<&[u8]> = file.split_inclusive(|&byte| byte == b'\n').collect();
+    for alike in lines.chunk_by(|line, next| line == next) {
+        let last = number + alike.len() - 1;
+        let lines = if last > number { format!("{number} to {last}") } else { number.to_string() };
+        writeln!(f, "    {lines}: b\"{}\"", alike[0].escape_ascii())?;
+        number = last + 1;
+    }
+    Ok(())
 }
 
 pub fn hex(bytes: &[u8]) -> String {

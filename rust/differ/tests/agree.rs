@@ -47,4 +47,5 @@ agree! {
     ask: Ask,
     take: Take,
     intake: Intake,
+    obj: Obj,
 }

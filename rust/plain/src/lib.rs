@@ -5,6 +5,7 @@ pub mod block;
 pub mod book;
 pub mod footprint;
 pub mod intake;
+pub mod obj;
 pub mod refusal;
 pub mod room;
 pub mod verdict;

@@ -3,13 +3,13 @@
 pub struct Refusal {
     pub number: u8,
     pub block: u16,
-    pub a: u16,
+    pub a: u32,
     pub b: u16,
 }
 
 impl Refusal {
     pub(crate) fn new(number: u8, a: usize, b: usize) -> Self {
-        Refusal { number, block: 0, a: a as u16, b: b as u16 }
+        Refusal { number, block: 0, a: a as u32, b: b as u16 }
     }
 
     pub(crate) fn length() -> Self {

@@ -7,18 +7,28 @@
 //!   X Y
 //!   X Y
 //!   X Y
+//! piece BOTTOM TOP  VX VY VZ  obj FILE
 //! ```
 //!
 //! Numbers are whole, in grid units and ticks, and stand apart by spaces or tabs. There is one run,
 //! anywhere. A piece is followed by its corners, counterclockwise: a line that begins with a number
 //! has one or more corners of the piece above it, and corners may also follow on the piece's own
-//! line. The pieces are numbered from 0 in the order of the text, at most 126 of them.
+//! line. Or they are the face of an OBJ file: FILE is its path from the scene's own folder, one word
+//! with no blank and no `#` in it. The pieces are numbered from 0 in the order of the text, at most
+//! 126 of them.
+
+pub mod obj;
+mod told;
 
 use second::block::{self, SIZE};
 use second::refusal::{Refusal, LENGTH};
 use second::room::room_pieces;
 use second::{Piece, Run};
 use std::fmt::Write;
+use std::path::Path;
+use told::told;
+
+const MOST_CORNERS: usize = 64;
 
 /// What is wrong with a text, and in which line, from 1.
 #[derive(Clone, Debug, PartialEq, Eq)]
@@ -27,24 +37,32 @@ pub struct Fault {
     pub why: String,
 }
 
-/// A piece with the line that it begins in and the line of each corner.
+/// A piece with the line that it begins in, and the OBJ file or else the line of each corner.
 struct Written {
     piece: Piece,
     line: usize,
+    file: Option<String>,
     corner_lines: Vec<usize>,
 }
 
-/// What has been read of a text up to some line.
-#[derive(Default)]
-struct Scene {
+/// What has been read of a text up to some line, and how and where from OBJ files are read.
+struct Scene<'a> {
+    folder: &'a Path,
+    reader: Option<obj::Reader>,
     line: usize,
     run: Option<(Run, usize)>,
     pieces: Vec<Written>,
 }
 
-/// The bytes that a text stands for: a run block, then a room image.
-pub fn encode(text: &str) -> Result<Vec<u8>, Fault> {
-    let mut scene = Scene::default();
+/// The bytes that a text stands for: a run block, then a room image. OBJ files are named from the
+/// folder and read by the proved library.
+pub fn encode(text: &str, folder: &Path) -> Result<Vec<u8>, Fault> {
+    encode_by(text, folder, obj::PROVED)
+}
+
+/// The same by another reader of OBJ files, or by none.
+pub fn encode_by(text: &str, folder: &Path, reader: Option<obj::Reader>) -> Result<Vec<u8>, Fault> {
+    let mut scene = Scene { folder, reader, line: 0, run: None, pieces: Vec::new() };
     for line in text.lines() {
         scene.line += 1;
         scene.read_line(line).map_err(|why| Fault { line: scene.line, why })?;
@@ -52,13 +70,13 @@ pub fn encode(text: &str) -> Result<Vec<u8>, Fault> {
     scene.bytes()
 }
 
-impl Scene {
+impl Scene<'_> {
     fn read_line(&mut self, line: &str) -> Result<(), String> {
         let words: Vec<&str> = line.split('#').next().unwrap_or("").split_whitespace().collect();
         match words.split_first() {
             None => Ok(()),
             Some((&"run", rest)) => self.read_run(&numbers(rest)?),
-            Some((&"piece", rest)) => self.read_piece(&numbers(rest)?),
+            Some((&"piece", rest)) => self.read_piece(rest),
             Some((word, _)) if word.starts_with(|c: char| c.is_alphabetic()) => {
                 Err(format!("`{word}` begins no line: `run`, `piece` or a corner does"))
             }
@@ -78,22 +96,47 @@ impl Scene {
         Ok(())
     }
 
-    fn read_piece(&mut self, numbers: &[i32]) -> Result<(), String> {
-        let &[bottom, top, vx, vy, vz, ref corners @ ..] = numbers else {
+    fn read_piece(&mut self, words: &[&str]) -> Result<(), String> {
+        let obj = words.iter().position(|&word| word == "obj");
+        let (words, obj) = words.split_at(obj.unwrap_or(words.len()));
+        let numbers = numbers(words)?;
+        let &[bottom, top, vx, vy, vz, ref corners @ ..] = &numbers[..] else {
             return Err(format!("a piece has 5 numbers before its corners, not {}", numbers.len()));
         };
         if self.pieces.len() == block::MOST_PIECES as usize {
             return Err(format!("a room has at most {} pieces", block::MOST_PIECES));
         }
         let piece = Piece { bottom, top, velocity: [vx, vy, vz], corners: Vec::new() };
-        self.pieces.push(Written { piece, line: self.line, corner_lines: Vec::new() });
-        self.read_corners(corners)
+        self.pieces.push(Written { piece, line: self.line, file: None, corner_lines: Vec::new() });
+        match (corners, obj) {
+            (_, []) => self.read_corners(corners),
+            ([], [_, file]) => self.read_obj(file),
+            ([], _) => Err(format!("one word follows `obj`, a file's name, and here are {}", obj.len() - 1)),
+            _ => Err(format!("a piece has 5 numbers before `obj`, not {}", numbers.len())),
+        }
+    }
+
+    /// Gives the last piece, which is that of this line, the corners that stand in an OBJ file.
+    fn read_obj(&mut self, file: &str) -> Result<(), String> {
+        let read = self.reader.ok_or_else(|| format!("{file}: {}", obj::NOT_LINKED))?;
+        let bytes = obj::bytes(&self.folder.join(file)).map_err(|error| format!("{file}: {error}"))?;
+        let i = self.pieces.len() - 1;
+        let Written { piece, file: named, .. } = &mut self.pieces[i];
+        let mut list = [0; 2 * MOST_CORNERS];
+        let corners = read(&bytes, piece.bottom, piece.top, piece.velocity, &mut list)
+            .map_err(|refusal| obj::told_of(file, i, refusal))?;
+        piece.corners.extend(&list[..2 * corners]);
+        *named = Some(file.to_string());
+        Ok(())
     }
 
     fn read_corners(&mut self, numbers: &[i32]) -> Result<(), String> {
         let Some(last) = self.pieces.last_mut() else {
             return Err("a corner before the first piece".to_string());
         };
+        if let Some(file) = &last.file {
+            return Err(format!("the corners of this piece are in {file}"));
+        }
         if numbers.len() % 2 != 0 {
             return Err("a corner has x and y, and here is an odd number of them".to_string());
         }
@@ -135,21 +178,6 @@ impl Written {
         };
         corner.and_then(|corner| self.corner_lines.get(corner).copied()).unwrap_or(self.line)
     }
-}
-
-/// A refusal of a run or a piece in words, with its number and places.
-fn told(refusal: Refusal) -> String {
-    let Refusal { number, a, b, .. } = refusal;
-    let words = match number {
-        4 => "a number is out of reach, or the bottom above the top".to_string(),
-        5 => "the corners are not 3 to 64".to_string(),
-        6 => format!("corner {a} equals the next"),
-        7 => format!("the edges fold at corner {a}"),
-        8 => format!("edges {a} and {b} meet"),
-        9 => "the corners run clockwise".to_string(),
-        _ => "it cannot be laid out".to_string(),
-    };
-    format!("{words} ({number} at {a} {b})")
 }
 
 fn numbers(words: &[&str]) -> Result<Vec<i32>, String> {

@@ -1,6 +1,7 @@
 //! scene encode FILE > BYTES, scene decode < BYTES: see the library for the text.
 
 use std::io::{self, Read, Write};
+use std::path::Path;
 use std::process::ExitCode;
 
 const USAGE: &str = "\
@@ -12,6 +13,10 @@ A scene is one run and any pieces, each with its corners counterclockwise; # beg
     piece BOTTOM TOP  VX VY VZ
       X Y
       ...
+    piece BOTTOM TOP  VX VY VZ  obj FILE
+
+The second form takes the corners from a Wavefront OBJ file, by the proved library. FILE is one word
+without blanks, a path from the scene's own folder (from the current one for standard input).
 ";
 
 fn main() -> ExitCode {
@@ -37,7 +42,9 @@ fn main() -> ExitCode {
 fn encode(file: &str) -> Result<Vec<u8>, String> {
     let text = if file == "-" { io::read_to_string(io::stdin()) } else { std::fs::read_to_string(file) };
     let text = text.map_err(|error| format!("{file}: {error}"))?;
-    scene::encode(&text).map_err(|fault| format!("{file}: line {}: {}", fault.line, fault.why))
+    // `-` and a bare name have the empty path for a folder: the current one
+    let folder = Path::new(file).parent().unwrap_or(Path::new(""));
+    scene::encode(&text, folder).map_err(|fault| format!("{file}: line {}: {}", fault.line, fault.why))
 }
 
 fn decode() -> Result<Vec<u8>, String> {

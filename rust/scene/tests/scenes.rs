@@ -1,19 +1,40 @@
-//! The example scenes, the way there and back, and bad texts.
+//! The example scenes, the way there and back, bad texts, and pieces from OBJ files.
 
 use gen::{blocks, bodies, Rng};
-use scene::{decode, encode};
+use scene::obj::{Reader, PROVED};
+use scene::{decode, encode_by, Fault};
 use second::shade::shade;
+use std::fs;
+use std::path::{Path, PathBuf};
+
+fn examples() -> PathBuf {
+    Path::new(env!("CARGO_MANIFEST_DIR")).join("../../examples")
+}
 
 fn example(name: &str) -> String {
-    let path = format!("{}/../../examples/{name}", env!("CARGO_MANIFEST_DIR"));
-    std::fs::read_to_string(&path).unwrap_or_else(|error| panic!("{path}: {error}"))
+    let path = examples().join(name);
+    fs::read_to_string(&path).unwrap_or_else(|error| panic!("{}: {error}", path.display()))
+}
+
+/// A text that names no OBJ file: it needs no reader of them, and no folder.
+fn encode(text: &str) -> Result<Vec<u8>, Fault> {
+    encode_by(text, Path::new("nowhere"), None)
+}
+
+/// The readers of OBJ files that are there: the second implementation's, and the proved one.
+fn readers() -> Vec<Option<Reader>> {
+    let second: Reader = second::obj::footprint;
+    [Some(second), PROVED].into_iter().filter(Option::is_some).collect()
 }
 
 #[test]
 fn examples_print_what_stands_beside_them() {
-    for name in ["room", "parlour"] {
-        let bytes = encode(&example(&format!("{name}.scene"))).unwrap();
-        assert_eq!(shade(&bytes), example(&format!("{name}.expected")), "{name}");
+    for name in ["room", "parlour", "corner-sofa"] {
+        let (text, expected) = (example(&format!("{name}.scene")), example(&format!("{name}.expected")));
+        for reader in readers() {
+            let bytes = encode_by(&text, &examples(), reader).unwrap();
+            assert_eq!(shade(&bytes), expected, "{name}");
+        }
     }
     assert_eq!(example("room.expected"), "pieces 2\n0 blocked 1024\n1 clear\n");
 }
@@ -75,4 +96,125 @@ fn refused_bytes() {
     let mut bytes = encode(&example("room.scene")).unwrap();
     bytes[1_100] ^= 1;
     assert_eq!(decode(&bytes), Err("refused 2 block 1 at 0 0".to_string()));
+}
+
+/// A new folder for the OBJ files of one test, taken away at its end.
+struct Folder(PathBuf);
+
+impl Folder {
+    fn new(test: &str) -> Self {
+        let path = std::env::temp_dir().join(format!("scene-{test}-{}", std::process::id()));
+        fs::create_dir_all(path.join("inner")).unwrap();
+        Folder(path)
+    }
+
+    fn write(&self, name: &str, text: impl AsRef<[u8]>) {
+        fs::write(self.0.join(name), text).unwrap();
+    }
+}
+
+impl Drop for Folder {
+    fn drop(&mut self) {
+        let _ = fs::remove_dir_all(&self.0);
+    }
+}
+
+const RUN: &str = "run 0 0 0 0 0 0 0\n";
+/// (0, 0) (64, 0) (64, 8) in grid units.
+const TRIANGLE: &str = "v 0 9 0\nv 4.0 9 0\nv 4 9 -0.5\n";
+
+#[test]
+fn corners_from_an_obj_file() {
+    let folder = Folder::new("corners");
+    folder.write("a.obj", format!("{TRIANGLE}f 1 2 3\n"));
+    folder.write("obj", format!("{TRIANGLE}f 1 2 3"));
+    folder.write("inner/b.obj", format!("o b\n{TRIANGLE}f -3 -2/1 -1//1\n").replace('\n', "\r\n"));
+    let listed = encode(&format!("{RUN}piece 0 9 1 2 3\n0 0 64 0 64 8\npiece 0 1 0 0 0 0 0 1 0 0 1\n"));
+    let absolute = folder.0.join("a.obj").display().to_string();
+    for reader in readers() {
+        for file in ["a.obj", "./a.obj", "inner/b.obj", "inner/../a.obj", "obj", "a.obj#b.obj c", &absolute] {
+            let text = format!("{RUN}piece 0 9 1 2 3 obj {file}\npiece 0 1 0 0 0\n0 0 1 0 0 1\n");
+            assert_eq!(encode_by(&text, &folder.0, reader), listed, "{file}");
+        }
+    }
+}
+
+#[test]
+fn bad_lines_with_an_obj_file() {
+    let folder = Folder::new("lines");
+    folder.write("a.obj", format!("{TRIANGLE}f 1 2 3\n"));
+    for reader in readers() {
+        let fault = |text: &str, line: usize, why: &str| {
+            let text = format!("{RUN}{text}");
+            let fault = Fault { line, why: why.to_string() };
+            assert_eq!(encode_by(&text, &folder.0, reader), Err(fault), "{text:?}");
+        };
+        let good = "piece 0 9 0 0 0 obj a.obj\n";
+        fault(&format!("{good}\n 1 2\n"), 4, "the corners of this piece are in a.obj");
+        fault("piece 0 9 0 0 0 obj\n", 2, "one word follows `obj`, a file's name, and here are 0");
+        fault("piece 0 9 0 0 0 obj a.obj 1 2\n", 2, "one word follows `obj`, a file's name, and here are 3");
+        fault("piece 0 9 0 0 obj a.obj\n", 2, "a piece has 5 numbers before its corners, not 4");
+        fault("piece 0 9 0 0 0 0 0 obj a.obj\n", 2, "a piece has 5 numbers before `obj`, not 7");
+        fault("piece 0 9 0 0 0 a.obj\n", 2, "`a.obj` is no whole number");
+        fault("piece 0 9 0 0 0 obj b.obj\n", 2, "b.obj: No such file or directory (os error 2)");
+        fault("piece 0 9 0 0 0 obj inner\n", 2, "inner: Is a directory (os error 21)");
+        fault(&good.repeat(127), 128, "a room has at most 126 pieces");
+    }
+}
+
+#[test]
+fn refused_obj_files_are_told() {
+    let folder = Folder::new("refused");
+    for reader in readers() {
+        let refused = |file: &str, why: &str| {
+            folder.write("a.obj", file);
+            let text = format!("{RUN}\npiece 0 9 0 0 0 obj a.obj\n");
+            let fault = Fault { line: 3, why: format!("a.obj: {why}") };
+            assert_eq!(encode_by(&text, &folder.0, reader), Err(fault), "{why}");
+        };
+        let face = |face: &str| format!("{TRIANGLE}{face}\n");
+        refused(&"#".repeat(65_537), "the file has more than 65536 bytes (1 at 0 0)");
+        refused(&"#".repeat(200_000), "the file has more than 65536 bytes (1 at 0 0)");
+        refused(&"#".repeat(65_536), "the file has no face (16 at 0 0)");
+        let line = "this is no good `v` or `f` line, and none that is passed over";
+        refused("# a\n\nv 0 0\n", &format!("line 3: {line} (14 at 3 0)"));
+        refused(&format!("{}x", "\n".repeat(65_535)), &format!("line 65536: {line} (14 at 65536 0)"));
+        refused(&face("f 1 2 4"), "line 4: an index names no `v` above the face (15 at 4 0)");
+        refused(&face("f 1 2 3\n\nf 1 2 3"), "line 6: a second face (16 at 6 0)");
+        let reach = "of corner 1 is out of reach, below -1024 or above 1024";
+        refused("v 0 0 0\nv 1024.1 0 0\nf 1 2", &format!("x {reach} (12 at 1 0)"));
+        refused("v 0 0 0\nv 0 0 2000\nf 1 2", &format!("y (minus z) {reach} (12 at 1 1)"));
+        let grid = "of corner 0 is off the grid, no whole number of sixteenths";
+        refused("v 0.05 0 0\nf 1", &format!("x {grid} (13 at 0 0)"));
+        refused("v 0 0 0.05\nf 1", &format!("y (minus z) {grid} (13 at 0 1)"));
+        refused(&face("f 1 2"), "the corners are not 3 to 64 (5 at 0 0)");
+        refused(&face("f 1 2 3 3"), "corner 2 equals the next (6 at 2 0)");
+        refused(&face("v 2 9 0\nf 1 2 4 3"), "the edges fold at corner 1 (7 at 1 0)");
+        let crossed = "v 0 0 0\nv 4 0 -4\nv 4 0 0\nv 0 0 -4\nf 1 2 3 4\n";
+        refused(crossed, "edges 0 and 2 meet (8 at 0 2)");
+        refused(&face("f 3 2 1"), "the corners run clockwise (9 at 0 0)");
+
+        // band and velocity do not stand in the file
+        folder.write("a.obj", face("f 1 2 3"));
+        let text = format!("{RUN}piece 0 1 0 0 0 0 0 1 0 0 1\npiece 0 9 0 256 0 obj a.obj\n");
+        let why = "piece 1 is refused: a number is out of reach, or the bottom above the top (4 at 8 0)";
+        assert_eq!(encode_by(&text, &folder.0, reader), Err(Fault { line: 3, why: why.to_string() }));
+    }
+}
+
+#[test]
+fn without_the_proved_library() {
+    let why = "corner-sofa.obj: OBJ files are read by the proved library, which is not linked: \
+               make it with `rt staticlib baker`, and tools/scene links it";
+    let fault = Fault { line: 13, why: why.to_string() };
+    assert_eq!(encode_by(&example("corner-sofa.scene"), &examples(), None), Err(fault));
+}
+
+/// What the tool calls is the proved reader, or none.
+#[test]
+fn the_tool_reads_by_the_proved_library() {
+    let text = example("corner-sofa.scene");
+    let bytes = scene::encode(&text, &examples());
+    assert_eq!(bytes, encode_by(&text, &examples(), PROVED));
+    assert_eq!(bytes.is_ok(), baker::PRESENT);
 }

@@ -7,6 +7,7 @@ pub mod book;
 pub mod footprint;
 pub mod fraction;
 pub mod intake;
+pub mod obj;
 pub mod place;
 pub mod reach;
 pub mod refusal;

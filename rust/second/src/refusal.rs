@@ -8,7 +8,7 @@ use std::fmt;
 pub struct Refusal {
     pub number: u8,
     pub block: u16,
-    pub a: u16,
+    pub a: u32,
     pub b: u16,
 }
 
@@ -25,6 +25,9 @@ pub const SHORT: u8 = 10;
 pub const NOT_A_NUMBER: u8 = 11;
 pub const OUT_OF_REACH: u8 = 12;
 pub const OFF_GRID: u8 = 13;
+pub const LINE: u8 = 14;
+pub const INDEX: u8 = 15;
+pub const FACE: u8 = 16;
 
 impl Refusal {
     /// A refusal that names no place.
@@ -39,7 +42,7 @@ impl Refusal {
 
     /// A refusal with the places a and b.
     pub fn between(number: u8, a: usize, b: usize) -> Self {
-        Refusal { number, block: 0, a: a as u16, b: b as u16 }
+        Refusal { number, block: 0, a: a as u32, b: b as u16 }
     }
 
     /// The same refusal, said of piece block `piece` of a room.

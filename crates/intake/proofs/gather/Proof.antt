@@ -6,9 +6,10 @@ use borrow.Author.Needs.{needs}
 use lib.ListN.{length, length-set}
 use mir.Syntax.{w32}
 use Rattle.whole.proofs.Range.{field}
+use Rattle.rules.proofs.Checks.{rows-fault}
 use Rattle.refusal.specs.Said.{said}
 use Rattle.intake.specs.Footprint.{Holds, Paired, cornerAt}
-use Rattle.intake.proofs.Footprint.{hold-more, holds-pass, fault-at}
+use Rattle.intake.proofs.Footprint.{hold-more, holds-pass}
 use Rattle.intake.proofs.gather.Statement.{statement}
 use Rattle.intake.proofs.gather.Tie as tie
 
@@ -67,7 +68,7 @@ returns c =
     let s = f .before .before .before in
     let cs = s .before .args .t1 in
     let r = c .before .r .given in
-    fault-at cs (said (r .0 .0)) (s .loop .i) (s .before .args .count) (omega arith) (holds-pass cs (s .loop .i) (s .loop .numbers) (s .loop .inv .0))
+    rows-fault _ (said (r .0 .0)) (s .loop .i) (s .before .args .count) (omega arith) (holds-pass cs (s .loop .i) (s .loop .numbers) (s .loop .inv .0))
     (subst (Paired (cornerAt cs (s .loop .i)) (s .loop .i)) (r .1) (found f))
 
 add-i : tie.Need-add-i Inv-loop μ-loop

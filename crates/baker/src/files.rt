@@ -1,0 +1,22 @@
+// Footprints from OBJ files.
+use crate::code::outline;
+use crate::given::band_of;
+ghost use Rattle.rules.specs.Reach.{piece};
+ghost use Rattle.obj.specs.File.{ObjSays};
+ghost use Rattle.baker.specs.Coded.{Coded, outlineCode};
+
+#[no_mangle]
+pub extern "C" fn baker_obj(
+    file: &[u8],
+    bottom: i32,
+    top: i32,
+    vx: i32,
+    vy: i32,
+    vz: i32,
+    list: &mut [i32],
+) -> u64
+    ensures { λ r. ⌜ Coded (ObjSays (now (file .entry)) (piece bottom top vx vy vz) (now (list .entry)) (now (list .exit))) outlineCode r ⌝ }
+{
+    let band = band_of(bottom, top, vx, vy, vz);
+    outline(obj::footprint(file, band, list))
+}

@@ -1,0 +1,17 @@
+pub mod Told
+pub mod Seek
+pub mod Parts
+pub mod Words
+pub mod Lines
+pub mod Digits
+pub mod Decimals
+pub mod Exact
+pub mod Corners
+pub mod Says
+pub mod Table
+pub mod Seen
+pub mod Gather
+pub mod Answer
+pub mod Bounds
+pub mod Unique
+pub mod Examples

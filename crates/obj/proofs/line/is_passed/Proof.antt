@@ -1,0 +1,89 @@
+-- `obj::line::is_passed` meets its contract. Assumes nothing.
+use mathlib.Core.Path.{_≡_}
+use mathlib.Core.Bool.{Bool, _||_, or-false}
+use mathlib.Core.List.{List, [], _∷_}
+use Prim.Native.Nat.{ℕ}
+use borrow.Author.Needs.{needs}
+use Rattle.obj.specs.Line.{same, among, passedWords}
+use Rattle.obj.proofs.line.is_passed.Statement.{statement}
+use Rattle.obj.proofs.line.is_passed.Tie as tie
+
+-- the seven words, one after the other
+seven : (w : List ℕ) {o g s n t u m : Bool}
+    → o ≡ same w (111 ∷ [])
+    → g ≡ same w (103 ∷ [])
+    → s ≡ same w (115 ∷ [])
+    → n ≡ same w (118 ∷ 110 ∷ [])
+    → t ≡ same w (118 ∷ 116 ∷ [])
+    → u ≡ same w (117 ∷ 115 ∷ 101 ∷ 109 ∷ 116 ∷ 108 ∷ [])
+    → m ≡ same w (109 ∷ 116 ∷ 108 ∷ 108 ∷ 105 ∷ 98 ∷ [])
+    → (o || (g || (s || (n || (t || (u || m)))))) ≡ among w passedWords
+unfolding among
+seven w o g s n t u m = rw (o, g, s, n, t, u, m, or-false)
+
+slice-aggregate-spelled : tie.Need-slice-aggregate-spelled
+slice-aggregate-spelled c = search needs
+
+spelled-requires : tie.Need-spelled-requires
+spelled-requires c κs = search needs
+
+slice-aggregate-spelled-2 : tie.Need-slice-aggregate-spelled-2
+slice-aggregate-spelled-2 c = search needs
+
+spelled-requires-2 : tie.Need-spelled-requires-2
+spelled-requires-2 c κs = search needs
+
+slice-aggregate-spelled-3 : tie.Need-slice-aggregate-spelled-3
+slice-aggregate-spelled-3 c = search needs
+
+spelled-requires-3 : tie.Need-spelled-requires-3
+spelled-requires-3 c κs = search needs
+
+slice-aggregate-spelled-4 : tie.Need-slice-aggregate-spelled-4
+slice-aggregate-spelled-4 c = search needs
+
+spelled-requires-4 : tie.Need-spelled-requires-4
+spelled-requires-4 c κs = search needs
+
+slice-aggregate-spelled-5 : tie.Need-slice-aggregate-spelled-5
+slice-aggregate-spelled-5 c = search needs
+
+spelled-requires-5 : tie.Need-spelled-requires-5
+spelled-requires-5 c κs = search needs
+
+slice-aggregate-spelled-6 : tie.Need-slice-aggregate-spelled-6
+slice-aggregate-spelled-6 c = search needs
+
+spelled-requires-6 : tie.Need-spelled-requires-6
+spelled-requires-6 c κs = search needs
+
+slice-aggregate-spelled-7 : tie.Need-slice-aggregate-spelled-7
+slice-aggregate-spelled-7 c = search needs
+
+spelled-requires-7 : tie.Need-spelled-requires-7
+spelled-requires-7 c κs = search needs
+
+returns : tie.Need-returns
+returns c =
+    let f = c .before .before in let e = f .before .before in let d = e .before .before in let b = d .before .before in let a = b .before .before in let z = a .before .before in
+    seven _ (e .spelled5 .ensures) (f .spelled6 .ensures) (c .spelled7 .ensures) (b .spelled3 .ensures) (d .spelled4 .ensures) (z .spelled .ensures) (a .spelled2 .ensures)
+
+pub is-passed-spec : {M : Type 1} → statement M
+is-passed-spec =
+    tie.close
+    (tie.spec
+    slice-aggregate-spelled
+    spelled-requires
+    slice-aggregate-spelled-2
+    spelled-requires-2
+    slice-aggregate-spelled-3
+    spelled-requires-3
+    slice-aggregate-spelled-4
+    spelled-requires-4
+    slice-aggregate-spelled-5
+    spelled-requires-5
+    slice-aggregate-spelled-6
+    spelled-requires-6
+    slice-aggregate-spelled-7
+    spelled-requires-7
+    returns)
