@@ -1,15 +1,13 @@
--- The least mark over the edges is the mark of the first touch. Assumes nothing.
+-- The least mark over the edges is the mark in which touches begin. Assumes nothing.
 use mathlib.Core.Path.{_≡_, refl, subst}
 use mathlib.Core.Logic.{_⊎_, inl, inr, ⊎-elim}
 use mathlib.Core.Bool.{Bool, true, false, cond}
 use Prim.Native.Nat.{ℕ, zero, suc, min, _≤_, _<_}
 use native.Mathlib.Omega.{arith}
-use lib.Dec.{leb→le}
 use lib.IntN.{pos}
-use lib.Signed.{_≤ℤ_}
-use Rattle.whole.specs.Fraction.{Frac, _≼_, whole, Floor}
-use Rattle.whole.proofs.Fraction.{trans, total, floor-mono, floor-most}
-use Rattle.whole.proofs.Order.{lt-le, ℕ-or}
+use Rattle.whole.specs.Fraction.{Frac, _≼_, mark, whole, Floor}
+use Rattle.whole.proofs.Fraction.{trans, mark-mono, floor-most}
+use Rattle.whole.proofs.Order.{ℕ-or}
 use Rattle.rules.specs.Ring.{Pt, Ring, from, to}
 use Rattle.decide.specs.Span.{Span, some, first}
 use Rattle.rules.specs.Verdict.{NONE}
@@ -17,10 +15,10 @@ use Rattle.decide.specs.Touch.{across, sameSide, onEdge, touch, touches}
 use Rattle.decide.proofs.Span.{Proper, In, begin, Clips, begins, no-moment, first-mark}
 use Rattle.decide.proofs.Touch.{OnAt, edge-clips, beside}
 
--- c is the mark of the first moment of the span at which Q, or says that there is none
+-- c is the mark of Q within the span: Q at some moment of its 1/256, and at none before; or it says that there is none
 pub data FirstAt (s : Span) (Q : Frac → Type 0) (c : ℕ) : Type 0 where
   never : c ≡ NONE → ((t : Frac) → In s t → Q t → ⊥) → FirstAt s Q c
-  when : (lo : Frac) → In s lo → Q lo → ((t : Frac) → In s t → Q t → lo ≼ t) → Floor (pos c) lo → c < NONE → FirstAt s Q c
+  when : (u : Frac) → In s u → Q u → Floor (pos c) u → ((t : Frac) → In s t → Q t → mark (pos c) ≼ t) → c < NONE → FirstAt s Q c
 
 -- no moment is later than the longest run
 abbrev pub Early : Span → Type 0
@@ -30,30 +28,25 @@ pub below-none : (c : ℕ) (t : Frac) → Floor (pos c) t → t ≼ whole (pos 4
 below-none c t f h = let l = floor-most c 4096 t f h in omega arith
 
 -- ---- of two, the earlier
-le-of : (c d : ℕ) → pos c ≤ℤ pos d → c ≤ d
-le-of c d h = leb→le c d (h .le)
-
 pub joined : {s : Span} {Q R : Frac → Type 0} (c d : ℕ) → FirstAt s Q c → FirstAt s R d → FirstAt s (λ t. Q t ⊎ R t) (min c d)
 joined {s} {Q} {R} c d (never e f) (never g h) = never (omega arith) (λ t i q. ⊎-elim (f t i) (h t i) q)
-joined {s} {Q} {R} c d (never e f) (when lo i q l m b) =
+joined {s} {Q} {R} c d (never e f) (when u i q m l b) =
     let z : d ≡ min c d = omega arith in
-    subst (λ (k : ℕ). FirstAt s (λ t. Q t ⊎ R t) k) z (when lo i (inr q) (λ t j x. ⊎-elim (λ y. absurd (f t j y)) (l t j) x) m b)
-joined {s} {Q} {R} c d (when lo i q l m b) (never e f) =
+    subst (FirstAt s (λ t. Q t ⊎ R t)) z (when u i (inr q) m (λ t j x. ⊎-elim (λ y. absurd (f t j y)) (l t j) x) b)
+joined {s} {Q} {R} c d (when u i q m l b) (never e f) =
     let z : c ≡ min c d = omega arith in
-    subst (λ (k : ℕ). FirstAt s (λ t. Q t ⊎ R t) k) z (when lo i (inl q) (λ t j x. ⊎-elim (l t j) (λ y. absurd (f t j y)) x) m b)
-joined {s} {Q} {R} c d (when lo i q l m b) (when lo′ i′ q′ l′ m′ b′) =
+    subst (FirstAt s (λ t. Q t ⊎ R t)) z (when u i (inl q) m (λ t j x. ⊎-elim (l t j) (λ y. absurd (f t j y)) x) b)
+joined {s} {Q} {R} c d (when u i q m l b) (when u′ i′ q′ m′ l′ b′) =
     ⊎-elim
-    (λ h. let o = le-of c d (floor-mono (pos c) (pos d) lo lo′ m m′ h) in
-    let z : c ≡ min c d = omega arith in
-    subst (λ (k : ℕ). FirstAt s (λ t. Q t ⊎ R t) k) z (when lo i (inl q) (λ t j x. ⊎-elim (l t j) (λ y. trans lo lo′ t h (l′ t j y)) x) m b))
-    (λ h. let o = le-of d c (floor-mono (pos d) (pos c) lo′ lo m′ m (lt-le _ _ h)) in
-    let z : d ≡ min c d = omega arith in
-    subst (λ (k : ℕ). FirstAt s (λ t. Q t ⊎ R t) k) z (when lo′ i′ (inr q′) (λ t j x. ⊎-elim (λ y. trans lo′ lo t (lt-le _ _ h) (l t j y)) (l′ t j) x) m′ b′))
-    (total lo lo′)
+    (λ (h : c ≤ d). let z : c ≡ min c d = omega arith in
+    subst (FirstAt s (λ t. Q t ⊎ R t)) z (when u i (inl q) m (λ t j x. ⊎-elim (l t j) (λ y. trans (mark (pos c)) (mark (pos d)) t (mark-mono c d h) (l′ t j y)) x) b))
+    (λ (h : d < c). let z : d ≡ min c d = omega arith in let e : d ≤ c = omega arith in
+    subst (FirstAt s (λ t. Q t ⊎ R t)) z (when u′ i′ (inr q′) m′ (λ t j x. ⊎-elim (λ y. trans (mark (pos d)) (mark (pos c)) t (mark-mono d c e) (l t j y)) (l′ t j) x) b′))
+    (ℕ-or c d)
 
 pub through : {s : Span} {Q R : Frac → Type 0} {c : ℕ} → ((t : Frac) → Q t → R t) → ((t : Frac) → R t → Q t) → FirstAt s Q c → FirstAt s R c
 through f g (never e h) = never e (λ t i q. h t i (g t q))
-through f g (when lo i q l m b) = when lo i (f lo q) (λ t j x. l t j (g t x)) m b
+through f g (when u i q m l b) = when u i (f u q) m (λ t j x. l t j (g t x)) b
 
 -- ---- an edge
 pub first-touch : (p w : Pt) (s : Span) → Proper s → Early s → (a b : Pt) → FirstAt s (OnAt p w a b) (touch p w s a b)
@@ -70,7 +63,7 @@ first-touch p w s q early a b = go (sameSide (across p w a) (across p w b)) refl
         let lo = begin (onEdge p w s a b) (c .proper) in
         let i = c .gives lo (begins (onEdge p w s a b) (c .proper) f) in
         let m = first-mark (onEdge p w s a b) (c .proper) in
-        when lo (i .0) (i .1) (λ t j h. c .keeps t j h .after) m (below-none (first (onEdge p w s a b)) lo m (early lo (i .0)))
+        when lo (i .0) (i .1) m (λ t j h. trans (mark (pos (first (onEdge p w s a b)))) lo t (m .low) (c .keeps t j h .after)) (below-none (first (onEdge p w s a b)) lo m (early lo (i .0)))
 
 -- ---- all edges
 abbrev pub OnFirst : Ring → Pt → Pt → ℕ → Frac → Type 0

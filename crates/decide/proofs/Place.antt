@@ -1,6 +1,6 @@
 -- The test of a point on an edge, the sign and the box, decides `On`; so the computed place is the place. Assumes nothing.
 use mathlib.Core.Path.{_≡_, refl, sym, subst, _∙_}
-use mathlib.Core.Logic.{⊎-elim}
+use mathlib.Core.Logic.{inl, inr, ⊎-elim}
 use mathlib.Core.Bool.{Bool, true, false, cond, _&&_}
 use Prim.Native.Nat.{ℕ, zero, suc, _≤_, _<_}
 use native.Mathlib.Omega.{arith}
@@ -9,13 +9,13 @@ use lib.Signed.{_≤ℤ_, _<ℤ_, leZ, <ℤ-≤ℤ-trans}
 use Rattle.whole.proofs.Order.{le-lt-trans, lt-le, not-lt, clash, neg-not, pos-not, ℕ-or}
 use Rattle.whole.proofs.Flag.{by-flag, false-true, decided, or-yes, or-left, or-right, and-yes, and-both, le-true, le-false, true-le}
 use Rattle.rules.specs.Ring.{Pt, Ring, from, to, On}
-use Rattle.rules.specs.Place.{OnRing, on, inside, outside, Parity, Place}
+use Rattle.rules.specs.Place.{OnRing, Where, on, inside, outside, Parity, Place, OnOrInside}
 use Rattle.rules.specs.Side.{o}
 use Rattle.rules.proofs.Segment.{no-line, Apart, right, left, right′, left′, below, above, before, behind}
 use Rattle.rules.proofs.On.{on-or-off, off-not-on}
 use Rattle.rules.proofs.Crossing.{flag, parity}
-use Rattle.rules.proofs.Place.{bit, parity-place}
-use Rattle.decide.specs.Touch.{least, most, ranged, isOn, onSome, place}
+use Rattle.rules.proofs.Place.{bit, parity-place, place-parity, zero-one}
+use Rattle.decide.specs.Touch.{least, most, ranged, isOn, onSome, place, contact, onOrInside}
 
 -- ---- the box
 pub least-low : (p a b : ℤ) → p <ℤ least a b → (p <ℤ a) × (p <ℤ b)
@@ -127,3 +127,20 @@ place-right r p = go (onSome r p (r .size)) refl (parity (flag r p) (r .size)) r
     go true e t f = some-on r p (r .size) (omega arith) e
     go false e true f = subst (λ (t : Bool). Parity r p (bit t)) f (parity-place r p (off e))
     go false e false f = subst (λ (t : Bool). Parity r p (bit t)) f (parity-place r p (off e))
+
+-- ---- on or inside
+pub met-yes : (r : Ring) (p : Pt) → onOrInside r p ≡ true → OnOrInside r p
+met-yes r p = go (place r p) (place-right r p)
+  where
+    go : (w : Where) → Place r p w → contact w ≡ true → OnOrInside r p
+    go on h e = inl h
+    go inside h e = inr h
+    go outside h e = absurd (false-true e)
+
+pub met-no : (r : Ring) (p : Pt) → onOrInside r p ≡ false → OnOrInside r p → ⊥
+met-no r p = go (place r p) (place-right r p)
+  where
+    go : (w : Where) → Place r p w → contact w ≡ false → OnOrInside r p → ⊥
+    go on h e m = false-true (sym e)
+    go inside h e m = false-true (sym e)
+    go outside h e m = ⊎-elim (h .off) (λ q. zero-one (place-parity r p 0 h) (place-parity r p 1 q)) m

@@ -6,11 +6,11 @@ use Rattle.whole.specs.Fraction.{Frac}
 use Rattle.whole.proofs.Polynomial.{vars4, vars5, poly, num-val, by-ring}
 use Rattle.rules.specs.Reach.{Run, Piece}
 use Rattle.rules.specs.Ring.{Pt, Ring, ring, times}
-use Rattle.rules.specs.Place.{Where, Place}
+use Rattle.rules.specs.Place.{OnOrInside}
 use Rattle.rules.specs.Contact.{pointAt, ringAt}
 use Rattle.rules.proofs.On.{move}
 use Rattle.rules.proofs.Share.{pt-eq}
-use Rattle.rules.proofs.Place.{moved, place-moved, place-unmoved}
+use Rattle.rules.proofs.Place.{moved, met-moved, met-unmoved}
 use Rattle.decide.specs.Touch.{pointOf, motion, over}
 use Rattle.decide.proofs.Touch.{at}
 
@@ -35,8 +35,15 @@ module _ (r : Run) (k : Piece) (t : Frac) where
   unfolding drift
   ring-relative = λ j. record { size = ringAt k t .size; at = λ i. pt-eq (move (pos 1) (drift k t) (times (t .den) (ring (k .corners) .at i))) (ringAt k t .at i) (corner-drift (t .den) (t .num) (ring (k .corners) .at i .x) (k .speed .x)) (corner-drift (t .den) (t .num) (ring (k .corners) .at i .y) (k .speed .y)) j }
 
-  pub place-relative : (w : Where) → Place (over (t .den) (ring (k .corners))) (at (pointOf r) (motion r k) t) w → Place (ringAt k t) (pointAt r t) w
-  place-relative w h = subst (λ (q : Ring). Place q (pointAt r t) w) ring-relative (subst (λ (p : Pt). Place (moved (pos 1) (drift k t) one (over (t .den) (ring (k .corners)))) p w) point-relative (place-moved (pos 1) (drift k t) one (over (t .den) (ring (k .corners))) (at (pointOf r) (motion r k) t) w h))
+  abbrev still : Ring
+  still = over (t .den) (ring (k .corners))
 
-  pub relative-place : (w : Where) → Place (ringAt k t) (pointAt r t) w → Place (over (t .den) (ring (k .corners))) (at (pointOf r) (motion r k) t) w
-  relative-place w h = place-unmoved (pos 1) (drift k t) one (over (t .den) (ring (k .corners))) (at (pointOf r) (motion r k) t) w (subst (λ (p : Pt). Place (moved (pos 1) (drift k t) one (over (t .den) (ring (k .corners)))) p w) (sym point-relative) (subst (λ (q : Ring). Place q (pointAt r t) w) (sym ring-relative) h))
+  pub met-relative : OnOrInside still (at (pointOf r) (motion r k) t) → OnOrInside (ringAt k t) (pointAt r t)
+  met-relative h =
+      subst (λ (q : Ring). OnOrInside q (pointAt r t)) ring-relative
+      (subst (OnOrInside (moved (pos 1) (drift k t) one still)) point-relative (met-moved (pos 1) (drift k t) one still (at (pointOf r) (motion r k) t) h))
+
+  pub relative-met : OnOrInside (ringAt k t) (pointAt r t) → OnOrInside still (at (pointOf r) (motion r k) t)
+  relative-met h =
+      met-unmoved (pos 1) (drift k t) one still (at (pointOf r) (motion r k) t)
+      (subst (OnOrInside (moved (pos 1) (drift k t) one still)) (sym point-relative) (subst (λ (q : Ring). OnOrInside q (pointAt r t)) (sym ring-relative) h))

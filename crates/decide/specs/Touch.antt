@@ -85,9 +85,12 @@ contact on = true
 contact inside = true
 contact outside = false
 
+abbrev pub onOrInside : Ring → Pt → Bool
+onOrInside r p = contact (place r p)
+
 -- the first mark of a point that runs at w within a span
 unfoldable pub meets : Ring → Pt → Pt → Span → ℕ
-meets r p w s = cond (some s) (cond (contact (place (over (s .lowD) r) (startPoint p w s))) (first s) (touches r p w s (r .size))) NONE
+meets r p w s = cond (some s) (cond (onOrInside (over (s .lowD) r) (startPoint p w s)) (first s) (touches r p w s (r .size))) NONE
 
 unfoldable pub code : Run → Piece → ℕ
 code r k = meets (ring (k .corners)) (pointOf r) (motion r k) (bandSpan r k)

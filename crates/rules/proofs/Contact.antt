@@ -1,7 +1,6 @@
 -- Contact does not depend on how a moment is written. Assumes nothing.
 use mathlib.Core.Path.{_≡_, sym, subst, _∙_}
 use mathlib.Core.HLevel.{isProp→PathP}
-use mathlib.Core.Logic.{inl, inr, ⊎-elim}
 use lib.Dec.{T-prop}
 use lib.IntN.{ℤ, pos, _+ℤ_, _*ℤ_, *ℤ-comm}
 use lib.Signed.{_≤ℤ_, _<ℤ_, ltZ}
@@ -12,11 +11,11 @@ use Rattle.whole.proofs.Polynomial.{vars5, poly, num-val, by-ring}
 use Rattle.rules.specs.Reach.{Run, Piece}
 use Rattle.rules.specs.Ring.{Pt, Ring}
 use Rattle.rules.specs.Ring as corners
-use Rattle.rules.specs.Place.{Where, on, inside, Place}
+use Rattle.rules.specs.Place.{OnOrInside}
 use Rattle.rules.specs.Contact.{Moment, pointAt, ringAt, Contact}
 use Rattle.rules.proofs.On.{move, origin}
 use Rattle.rules.proofs.Share.{pt-eq}
-use Rattle.rules.proofs.Place.{moved, place-moved, place-unmoved}
+use Rattle.rules.proofs.Place.{moved, met-moved, met-unmoved}
 
 -- ---- the same moment with c times the numbers
 along-scaled : (c d n p v : ℤ) → c *ℤ (d *ℤ p +ℤ n *ℤ v) +ℤ pos 0 ≡ (c *ℤ d) *ℤ p +ℤ (c *ℤ n) *ℤ v
@@ -29,11 +28,15 @@ module _ (r : Run) (k : Piece) (c : ℤ) (l : pos 0 <ℤ c) (t : Frac) where
   ring-scaled : moved c origin l (ringAt k t) ≡ ringAt k (scaled c l t)
   ring-scaled = λ j. record { size = ringAt k t .size; at = λ i. pt-eq (move c origin (ringAt k t .at i)) (ringAt k (scaled c l t) .at i) (along-scaled c (t .den) (t .num) (corners.ring (k .corners) .at i .x) (k .speed .x)) (along-scaled c (t .den) (t .num) (corners.ring (k .corners) .at i .y) (k .speed .y)) j }
 
-  pub place-scaled : (w : Where) → Place (ringAt k t) (pointAt r t) w → Place (ringAt k (scaled c l t)) (pointAt r (scaled c l t)) w
-  place-scaled w h = subst (λ (q : Ring). Place q (pointAt r (scaled c l t)) w) ring-scaled (subst (λ (p : Pt). Place (moved c origin l (ringAt k t)) p w) point-scaled (place-moved c origin l (ringAt k t) (pointAt r t) w h))
+  met-scaled : OnOrInside (ringAt k t) (pointAt r t) → OnOrInside (ringAt k (scaled c l t)) (pointAt r (scaled c l t))
+  met-scaled h =
+      subst (λ (q : Ring). OnOrInside q (pointAt r (scaled c l t))) ring-scaled
+      (subst (OnOrInside (moved c origin l (ringAt k t))) point-scaled (met-moved c origin l (ringAt k t) (pointAt r t) h))
 
-  pub place-unscaled : (w : Where) → Place (ringAt k (scaled c l t)) (pointAt r (scaled c l t)) w → Place (ringAt k t) (pointAt r t) w
-  place-unscaled w h = place-unmoved c origin l (ringAt k t) (pointAt r t) w (subst (λ (p : Pt). Place (moved c origin l (ringAt k t)) p w) (sym point-scaled) (subst (λ (q : Ring). Place q (pointAt r (scaled c l t)) w) (sym ring-scaled) h))
+  met-unscaled : OnOrInside (ringAt k (scaled c l t)) (pointAt r (scaled c l t)) → OnOrInside (ringAt k t) (pointAt r t)
+  met-unscaled h =
+      met-unmoved c origin l (ringAt k t) (pointAt r t)
+      (subst (OnOrInside (moved c origin l (ringAt k t))) (sym point-scaled) (subst (λ (q : Ring). OnOrInside q (pointAt r (scaled c l t))) (sym ring-scaled) h))
 
 turned : (c d n p v : ℤ) → (d *ℤ p +ℤ n *ℤ v) *ℤ c ≡ (c *ℤ d) *ℤ p +ℤ (c *ℤ n) *ℤ v
 turned = vars5 _ λ ρ. simp poly (by-ring _ _ _ tt)
@@ -47,13 +50,13 @@ le-unscaled c d n p v q w l h = cancel _ _ c l (rw (turned c d n p v, turned c d
 module _ (r : Run) (k : Piece) (c : ℤ) (l : pos 0 <ℤ c) (t : Frac) where
   pub contact-scaled : Contact r k t → Contact r k (scaled c l t)
   contact-scaled h = record {
-    place = ⊎-elim (λ p. inl (place-scaled r k c l t on p)) (λ p. inr (place-scaled r k c l t inside p)) (h .place);
+    place = met-scaled r k c l t (h .place);
     band = record { bottom = le-scaled c (t .den) (t .num) _ _ _ _ l (h .band .bottom); top = le-scaled c (t .den) (t .num) _ _ _ _ l (h .band .top) };
   }
 
   pub contact-unscaled : Contact r k (scaled c l t) → Contact r k t
   contact-unscaled h = record {
-    place = ⊎-elim (λ p. inl (place-unscaled r k c l t on p)) (λ p. inr (place-unscaled r k c l t inside p)) (h .place);
+    place = met-unscaled r k c l t (h .place);
     band = record { bottom = le-unscaled c (t .den) (t .num) _ _ _ _ l (h .band .bottom); top = le-unscaled c (t .den) (t .num) _ _ _ _ l (h .band .top) };
   }
 

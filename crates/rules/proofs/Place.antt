@@ -11,7 +11,7 @@ use Rattle.whole.proofs.Order.{pos-mul, mul-mono, mul-mono-lt, cancel, cancel-l
 use Rattle.whole.proofs.Flag.{same-flag, decided, false-true}
 use Rattle.whole.proofs.Polynomial.{vars9, poly, by-ring}
 use Rattle.rules.specs.Ring.{Pt, Ring, from, to, On}
-use Rattle.rules.specs.Place.{OnRing, Counted, Count, start, more, pass, Where, on, inside, outside, Parity, Place}
+use Rattle.rules.specs.Place.{OnRing, Counted, Count, start, more, pass, Where, on, inside, outside, Parity, Place, OnOrInside}
 use Rattle.rules.specs.Side.{o, side}
 use Rattle.rules.proofs.Crossing.{tst, xor, xor-unit, crosses, flag, parity, parity-ext}
 use Rattle.rules.proofs.Counted.{counted-yes, yes-counted}
@@ -133,24 +133,20 @@ module _ (k : ℤ) (s : Pt) (l : pos 0 <ℤ k) where
   pub same-flags : (r : Ring) (p : Pt) → parity (flag (moved r) (move k s p)) (r .size) ≡ parity (flag r p) (r .size)
   same-flags r p = parity-ext _ _ (r .size) (λ i h. crosses-moved (from r i) (to r i) p)
 
-  off-moved : (r : Ring) (p : Pt) → (OnRing r p → ⊥) → OnRing (moved r) (move k s p) → ⊥
-  off-moved r p f h = f (record { edge = h .edge; below = h .below; on = on-unmove k s p (from r (h .edge)) (to r (h .edge)) l (h .on) })
+  on-moved : (r : Ring) (p : Pt) → OnRing r p → OnRing (moved r) (move k s p)
+  on-moved r p h = record { edge = h .edge; below = h .below; on = on-move k s p (from r (h .edge)) (to r (h .edge)) (h .on) }
 
-  off-unmoved : (r : Ring) (p : Pt) → (OnRing (moved r) (move k s p) → ⊥) → OnRing r p → ⊥
-  off-unmoved r p f h = f (record { edge = h .edge; below = h .below; on = on-move k s p (from r (h .edge)) (to r (h .edge)) (h .on) })
+  on-unmoved : (r : Ring) (p : Pt) → OnRing (moved r) (move k s p) → OnRing r p
+  on-unmoved r p h = record { edge = h .edge; below = h .below; on = on-unmove k s p (from r (h .edge)) (to r (h .edge)) l (h .on) }
 
   parity-moved : (r : Ring) (p : Pt) (rest : ℕ) → Parity r p rest → Parity (moved r) (move k s p) rest
-  parity-moved r p rest h = rw (place-parity r p rest h ∙ ap bit (sym (same-flags r p))) (parity-place (moved r) (move k s p) (off-moved r p (h .off)))
+  parity-moved r p rest h = rw (place-parity r p rest h ∙ ap bit (sym (same-flags r p))) (parity-place (moved r) (move k s p) (λ q. h .off (on-unmoved r p q)))
 
   parity-unmoved : (r : Ring) (p : Pt) (rest : ℕ) → Parity (moved r) (move k s p) rest → Parity r p rest
-  parity-unmoved r p rest h = rw (place-parity (moved r) (move k s p) rest h ∙ ap bit (same-flags r p)) (parity-place r p (off-unmoved r p (h .off)))
+  parity-unmoved r p rest h = rw (place-parity (moved r) (move k s p) rest h ∙ ap bit (same-flags r p)) (parity-place r p (λ q. h .off (on-moved r p q)))
 
-  pub place-moved : (r : Ring) (p : Pt) (w : Where) → Place r p w → Place (moved r) (move k s p) w
-  place-moved r p on h = record { edge = h .edge; below = h .below; on = on-move k s p (from r (h .edge)) (to r (h .edge)) (h .on) }
-  place-moved r p inside h = parity-moved r p 1 h
-  place-moved r p outside h = parity-moved r p 0 h
+  pub met-moved : (r : Ring) (p : Pt) → OnOrInside r p → OnOrInside (moved r) (move k s p)
+  met-moved r p h = ⊎-elim (λ e. inl (on-moved r p e)) (λ e. inr (parity-moved r p 1 e)) h
 
-  pub place-unmoved : (r : Ring) (p : Pt) (w : Where) → Place (moved r) (move k s p) w → Place r p w
-  place-unmoved r p on h = record { edge = h .edge; below = h .below; on = on-unmove k s p (from r (h .edge)) (to r (h .edge)) l (h .on) }
-  place-unmoved r p inside h = parity-unmoved r p 1 h
-  place-unmoved r p outside h = parity-unmoved r p 0 h
+  pub met-unmoved : (r : Ring) (p : Pt) → OnOrInside (moved r) (move k s p) → OnOrInside r p
+  met-unmoved r p h = ⊎-elim (λ e. inl (on-unmoved r p e)) (λ e. inr (parity-unmoved r p 1 e)) h

@@ -90,15 +90,22 @@ sizedCheck l = demand (Sized l) (refuse 5 0 0)
 unfoldable pub bandCheck : Piece → Check
 bandCheck k = each (λ j. bandNumber k j → ⊥) 5 (λ i. refuse 4 (2 + 2 * i) 0)
 
--- from the reach of the corners on, each number of the list at offset 12 and up
-unfoldable pub shapeChecks : List ℤ → List Check
-shapeChecks l =
-    each (λ j. Reach (getD l j (pos 0)) → ⊥) (length l) (λ i. refuse 4 (12 + 2 * i) 0)
-    ∷ each (Same (ring l)) (ring l .size) (λ i. refuse 6 i 0)
+-- the numbers of the corners, at offset 12 and up
+abbrev pub cornersCheck : List ℤ → Check
+cornersCheck l = each (λ j. Reach (getD l j (pos 0)) → ⊥) (length l) (λ i. refuse 4 (12 + 2 * i) 0)
+
+-- the ring of corners within reach
+abbrev pub ringChecks : List ℤ → List Check
+ringChecks l =
+    each (Same (ring l)) (ring l .size) (λ i. refuse 6 i 0)
     ∷ each (Folds (ring l)) (ring l .size) (λ i. refuse 7 i 0)
     ∷ record { passes = (i j : ℕ) → Meet (ring l) i j → ⊥; fails = λ s. (i : ℕ) × (j : ℕ) × FirstMeet (ring l) i j × (s ≡ refuse 8 i j) }
     ∷ demand (Counterclockwise (ring l)) (refuse 9 0 0)
     ∷ []
+
+-- reach, then ring
+unfoldable pub shapeChecks : List ℤ → List Check
+shapeChecks l = cornersCheck l ∷ ringChecks l
 
 -- a footprint alone, and a piece
 unfoldable pub footprintChecks : List ℤ → List Check

@@ -1,5 +1,6 @@
 -- "Footprint, place and contact", the second paragraph: on, inside, outside. Assumes nothing.
 use mathlib.Core.Path.{_≡_}
+use mathlib.Core.Logic.{_⊎_}
 use mathlib.Core.List.{List, _∷_}
 use Prim.Native.Nat.{ℕ, zero, suc, _+_, _*_, _%_, _<_}
 use lib.IntN.{ℤ, pos, _*ℤ_}
@@ -52,6 +53,10 @@ abbrev pub Place : Ring → Pt → Where → Type 0
 Place r p on = OnRing r p
 Place r p inside = Parity r p 1
 Place r p outside = Parity r p 0
+
+-- what contact asks of the place
+abbrev pub OnOrInside : Ring → Pt → Type 0
+OnOrInside r p = OnRing r p ⊎ Parity r p 1
 
 -- the point's own numbers, at the offsets 2 and 4
 abbrev pub pointNumber : Pt → ℕ → Type 0

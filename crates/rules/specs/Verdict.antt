@@ -1,4 +1,4 @@
--- The verdict: clear, or the mark of the earliest contact. Assumes nothing.
+-- The verdict: clear, or the mark of the 1/256 in which contacts begin. Assumes nothing.
 use mathlib.Core.Bool.{cond}
 use mathlib.Core.List.{List, _++_}
 use Prim.Native.Nat.{ℕ}

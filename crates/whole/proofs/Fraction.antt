@@ -2,7 +2,7 @@
 use mathlib.Core.Logic.{_⊎_, ⊎-elim}
 use Prim.Native.Nat.{ℕ, _*_, _≤_}
 use native.Mathlib.Omega.{arith}
-use lib.Dec.{leb→le}
+use lib.Dec.{leb→le, le→leb}
 use lib.IntN.{ℤ, pos, _+ℤ_, _*ℤ_, *ℤ-comm}
 use lib.Signed.{_≤ℤ_, _<ℤ_, quotZ}
 use Rattle.whole.specs.Fraction.{Frac, _≼_, _≺_, whole, mark, Floor}
@@ -36,9 +36,9 @@ abbrev pub scaled : (c : ℤ) → pos 0 <ℤ c → Frac → Frac
 scaled c l t = record { num = c *ℤ t .num; den = c *ℤ t .den; some = pos-mul c (t .den) l (t .some) }
 
 -- ---- rounding down
--- an earlier moment has no later mark
-pub floor-mono : (j k : ℤ) (s t : Frac) → Floor j s → Floor k t → s ≼ t → j ≤ℤ k
-floor-mono j k s t f g h = cancel-next j k (pos 256) (mark j .some) (le-then-lt (mark j) s (mark (k +ℤ pos 1)) (f .low) (le-then-lt s t (mark (k +ℤ pos 1)) h (g .high)))
+-- a smaller mark begins no later
+pub mark-mono : (c d : ℕ) → c ≤ d → mark (pos c) ≼ mark (pos d)
+mark-mono c d h = record { le = le→leb (c * 256) (d * 256) (omega arith) }
 
 -- a moment by n has a mark of at most 256 n
 pub floor-most : (c n : ℕ) (t : Frac) → Floor (pos c) t → t ≼ whole (pos n) → c ≤ 256 * n
