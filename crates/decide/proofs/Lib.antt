@@ -1,3 +1,10 @@
+pub mod Segment
+pub mod On
+pub mod Share
+pub mod Crossing
+pub mod Counted
+pub mod Parity
+pub mod Contact
 pub mod Span
 pub mod Place
 pub mod Touch

@@ -8,11 +8,12 @@ use Rattle.whole.specs.Fraction.{Frac, _≼_}
 use Rattle.whole.proofs.Order.{nn-mul, pos-mul, lt-le, le-sub, ℕ-or}
 use Rattle.whole.proofs.Polynomial.{vars3, vars6, vars8, poly, num-val, by-ring}
 use Rattle.rules.specs.Ring.{Pt, times, Ring, from, to}
-use Rattle.rules.proofs.Segment.{Apart, Common, decide}
-use Rattle.rules.proofs.On.{move, origin}
-use Rattle.rules.proofs.Share.{pt-eq}
-use Rattle.rules.proofs.Crossing.{flag, parity, same-parity}
-use Rattle.rules.proofs.Place.{moved, same-flags}
+use Rattle.decide.proofs.Segment.{Apart, Common, decide}
+use Rattle.decide.proofs.On.{move, origin}
+use Rattle.decide.proofs.Share.{pt-eq}
+use Rattle.decide.specs.Crossing.{flag, parity}
+use Rattle.decide.proofs.Crossing.{same-parity}
+use Rattle.decide.proofs.Parity.{moved, same-flags}
 use Rattle.decide.specs.Touch.{over}
 use Rattle.decide.proofs.Touch.{at, OnAt, diff-le}
 use Rattle.decide.proofs.First.{OnFirst}

@@ -10,11 +10,11 @@ use Rattle.whole.proofs.Order.{le-lt-trans, lt-le, not-lt, clash, neg-not, pos-
 use Rattle.whole.proofs.Flag.{by-flag, false-true, decided, or-yes, or-left, or-right, and-yes, and-both, le-true, le-false, true-le}
 use Rattle.rules.specs.Ring.{Pt, Ring, from, to, On}
 use Rattle.rules.specs.Place.{OnRing, Where, on, inside, outside, Parity, Place, OnOrInside}
-use Rattle.rules.specs.Side.{o}
-use Rattle.rules.proofs.Segment.{no-line, Apart, right, left, right′, left′, below, above, before, behind}
-use Rattle.rules.proofs.On.{on-or-off, off-not-on}
-use Rattle.rules.proofs.Crossing.{flag, parity}
-use Rattle.rules.proofs.Place.{bit, parity-place, place-parity, zero-one}
+use Rattle.decide.specs.Side.{sideOf}
+use Rattle.decide.proofs.Segment.{no-line, Apart, right, left, right′, left′, below, above, before, behind}
+use Rattle.decide.proofs.On.{on-or-off, off-not-on}
+use Rattle.decide.specs.Crossing.{flag, parity}
+use Rattle.decide.proofs.Parity.{bit, parity-place, place-parity, zero-one}
 use Rattle.decide.specs.Touch.{least, most, ranged, isOn, onSome, place, contact, onOrInside}
 
 -- ---- the box
@@ -33,8 +33,8 @@ most-of P a b h k = by-flag P (leZ a b) b a (λ e. k) (λ e. h)
 
 -- on the line, and within the box
 pub record Boxed (p a b : Pt) : Type 0 where
-  pub right : o a b p ≤ℤ pos 0
-  pub left : pos 0 ≤ℤ o a b p
+  pub right : sideOf a b p ≤ℤ pos 0
+  pub left : pos 0 ≤ℤ sideOf a b p
   pub x-low : least (a .x) (b .x) ≤ℤ p .x
   pub x-high : p .x ≤ℤ most (a .x) (b .x)
   pub y-low : least (a .y) (b .y) ≤ℤ p .y
@@ -75,7 +75,7 @@ yes-range a z b h k = and-both _ _ (true-le a z h) (true-le z b k)
 
 module _ (p a b : Pt) where
   abbrev line : Bool
-  line = ranged (pos 0) (o a b p) (pos 0)
+  line = ranged (pos 0) (sideOf a b p) (pos 0)
 
   abbrev wide : Bool
   wide = ranged (least (a .x) (b .x)) (p .x) (most (a .x) (b .x))
@@ -87,7 +87,7 @@ module _ (p a b : Pt) where
   on-yes e =
       let i = and-yes line (wide && high) e in
       let k = and-yes wide high (i .1) in
-      let l = range-yes (pos 0) (o a b p) (pos 0) (i .0) in
+      let l = range-yes (pos 0) (sideOf a b p) (pos 0) (i .0) in
       let x = range-yes (least (a .x) (b .x)) (p .x) (most (a .x) (b .x)) (k .0) in
       let y = range-yes (least (a .y) (b .y)) (p .y) (most (a .y) (b .y)) (k .1) in
       boxed-on p a b (record { right = l .1; left = l .0; x-low = x .0; x-high = x .1; y-low = y .0; y-high = y .1 })
@@ -97,7 +97,7 @@ module _ (p a b : Pt) where
       let q = on-boxed p a b h in
       false-true
       (sym e
-      ∙ and-both line (wide && high) (yes-range (pos 0) (o a b p) (pos 0) (q .left) (q .right))
+      ∙ and-both line (wide && high) (yes-range (pos 0) (sideOf a b p) (pos 0) (q .left) (q .right))
       (and-both wide high (yes-range (least (a .x) (b .x)) (p .x) (most (a .x) (b .x)) (q .x-low) (q .x-high)) (yes-range (least (a .y) (b .y)) (p .y) (most (a .y) (b .y)) (q .y-low) (q .y-high))))
 
 -- ---- the place

@@ -8,9 +8,9 @@ use Rattle.rules.specs.Reach.{Run, Piece}
 use Rattle.rules.specs.Ring.{Pt, Ring, ring, times}
 use Rattle.rules.specs.Place.{OnOrInside}
 use Rattle.rules.specs.Contact.{pointAt, ringAt}
-use Rattle.rules.proofs.On.{move}
-use Rattle.rules.proofs.Share.{pt-eq}
-use Rattle.rules.proofs.Place.{moved, met-moved, met-unmoved}
+use Rattle.decide.proofs.On.{move}
+use Rattle.decide.proofs.Share.{pt-eq}
+use Rattle.decide.proofs.Parity.{moved, met-moved, met-unmoved}
 use Rattle.decide.specs.Touch.{pointOf, motion, over}
 use Rattle.decide.proofs.Touch.{at}
 

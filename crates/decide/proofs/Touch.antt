@@ -12,8 +12,8 @@ use Rattle.whole.proofs.Flag.{same-flag, or-yes, and-yes, lt-true}
 use Rattle.whole.proofs.Polynomial.{vars3, vars4, vars5, vars6, vars9, vars10, poly, num-val, by-ring}
 use Rattle.rules.specs.Ring.{Pt, times, On}
 use Rattle.rules.specs.Contact.{along}
-use Rattle.rules.specs.Side.{o, side}
-use Rattle.rules.proofs.Segment.{mix, mix⁺, Signs, minus, plus}
+use Rattle.decide.specs.Side.{sideOf, side}
+use Rattle.decide.proofs.Segment.{mix, mix⁺, Signs, minus, plus}
 use Rattle.decide.specs.Span.{Span}
 use Rattle.decide.specs.Touch.{least, most, swing, across, sameSide, onLine, within, onEdge}
 use Rattle.decide.proofs.Span.{Proper, Holds, Clips, clips, turned, both}
@@ -72,15 +72,15 @@ np-factor z d l h = cancel z (pos 0) d l (rw (zero-*ℤ d) h)
 -- ---- an edge
 module _ (p w a b : Pt) where
   abbrev Six : Frac → Type 0
-  Six t = ((Holds (o a b p) (swing a b w) t × Holds (negℤ (o a b p)) (negℤ (swing a b w)) t) × (Holds (p .x -ℤ least (a .x) (b .x)) (w .x) t × Holds (most (a .x) (b .x) -ℤ p .x) (negℤ (w .x)) t)) × (Holds (p .y -ℤ least (a .y) (b .y)) (w .y) t × Holds (most (a .y) (b .y) -ℤ p .y) (negℤ (w .y)) t)
+  Six t = ((Holds (sideOf a b p) (swing a b w) t × Holds (negℤ (sideOf a b p)) (negℤ (swing a b w)) t) × (Holds (p .x -ℤ least (a .x) (b .x)) (w .x) t × Holds (most (a .x) (b .x) -ℤ p .x) (negℤ (w .x)) t)) × (Holds (p .y -ℤ least (a .y) (b .y)) (w .y) t × Holds (most (a .y) (b .y) -ℤ p .y) (negℤ (w .y)) t)
 
-  side-at : (t : Frac) → o (times (t .den) a) (times (t .den) b) (at p w t) ≡ (o a b p *ℤ t .den +ℤ swing a b w *ℤ t .num) *ℤ t .den
+  side-at : (t : Frac) → sideOf (times (t .den) a) (times (t .den) b) (at p w t) ≡ (sideOf a b p *ℤ t .den +ℤ swing a b w *ℤ t .num) *ℤ t .den
   side-at t = line (t .den) (t .num) (a .x) (a .y) (b .x) (b .y) (p .x) (p .y) (w .x) (w .y)
 
   six-boxed : (t : Frac) → Six t → Boxed (at p w t) (times (t .den) a) (times (t .den) b)
   six-boxed t h = record {
-    right = rw (side-at t) (pn-mul (o a b p *ℤ t .den +ℤ swing a b w *ℤ t .num) (t .den) (diff-le _ (pos 0) (o a b p *ℤ t .den +ℤ swing a b w *ℤ t .num) (turn-side (o a b p) (swing a b w) (t .den) (t .num)) (h .0 .0 .1)) (lt-le _ _ (t .some)));
-    left = rw (side-at t) (nn-mul (o a b p *ℤ t .den +ℤ swing a b w *ℤ t .num) (t .den) (h .0 .0 .0) (lt-le _ _ (t .some)));
+    right = rw (side-at t) (pn-mul (sideOf a b p *ℤ t .den +ℤ swing a b w *ℤ t .num) (t .den) (diff-le _ (pos 0) (sideOf a b p *ℤ t .den +ℤ swing a b w *ℤ t .num) (turn-side (sideOf a b p) (swing a b w) (t .den) (t .num)) (h .0 .0 .1)) (lt-le _ _ (t .some)));
+    left = rw (side-at t) (nn-mul (sideOf a b p *ℤ t .den +ℤ swing a b w *ℤ t .num) (t .den) (h .0 .0 .0) (lt-le _ _ (t .some)));
     x-low = rw (least-times (t .den) (a .x) (b .x) (t .some)) (diff-le _ _ _ (low-eq (t .den) (t .num) (p .x) (w .x) (least (a .x) (b .x))) (h .0 .1 .0));
     x-high = rw (most-times (t .den) (a .x) (b .x) (t .some)) (diff-le _ _ _ (high-eq (t .den) (t .num) (p .x) (w .x) (most (a .x) (b .x))) (h .0 .1 .1));
     y-low = rw (least-times (t .den) (a .y) (b .y) (t .some)) (diff-le _ _ _ (low-eq (t .den) (t .num) (p .y) (w .y) (least (a .y) (b .y))) (h .1 .0));
@@ -90,7 +90,7 @@ module _ (p w a b : Pt) where
   boxed-six : (t : Frac) → Boxed (at p w t) (times (t .den) a) (times (t .den) b) → Six t
   boxed-six t h = (
     (
-      (nn-factor (o a b p *ℤ t .den +ℤ swing a b w *ℤ t .num) (t .den) (t .some) (rw (side-at t) at (h .left)), le-diff _ (pos 0) (o a b p *ℤ t .den +ℤ swing a b w *ℤ t .num) (turn-side (o a b p) (swing a b w) (t .den) (t .num)) (np-factor (o a b p *ℤ t .den +ℤ swing a b w *ℤ t .num) (t .den) (t .some) (rw (side-at t) at (h .right)))),
+      (nn-factor (sideOf a b p *ℤ t .den +ℤ swing a b w *ℤ t .num) (t .den) (t .some) (rw (side-at t) at (h .left)), le-diff _ (pos 0) (sideOf a b p *ℤ t .den +ℤ swing a b w *ℤ t .num) (turn-side (sideOf a b p) (swing a b w) (t .den) (t .num)) (np-factor (sideOf a b p *ℤ t .den +ℤ swing a b w *ℤ t .num) (t .den) (t .some) (rw (side-at t) at (h .right)))),
       (le-diff _ _ _ (low-eq (t .den) (t .num) (p .x) (w .x) (least (a .x) (b .x))) (rw (least-times (t .den) (a .x) (b .x) (t .some)) at (h .x-low)), le-diff _ _ _ (high-eq (t .den) (t .num) (p .x) (w .x) (most (a .x) (b .x))) (rw (most-times (t .den) (a .x) (b .x) (t .some)) at (h .x-high))),
     ),
     (le-diff _ _ _ (low-eq (t .den) (t .num) (p .y) (w .y) (least (a .y) (b .y))) (rw (least-times (t .den) (a .y) (b .y) (t .some)) at (h .y-low)), le-diff _ _ _ (high-eq (t .den) (t .num) (p .y) (w .y) (most (a .y) (b .y))) (rw (most-times (t .den) (a .y) (b .y) (t .some)) at (h .y-high))),
@@ -100,8 +100,8 @@ module _ (p w a b : Pt) where
   pub edge-clips : (s : Span) → Proper s → Clips s (onEdge p w s a b) (OnAt p w a b)
   unfolding onEdge onLine within
   edge-clips s q =
-      let c1 = clips s q (o a b p) (swing a b w) in
-      let c2 = clips _ (c1 .proper) (negℤ (o a b p)) (negℤ (swing a b w)) in
+      let c1 = clips s q (sideOf a b p) (swing a b w) in
+      let c2 = clips _ (c1 .proper) (negℤ (sideOf a b p)) (negℤ (swing a b w)) in
       let c3 = clips _ (c2 .proper) (p .x -ℤ least (a .x) (b .x)) (w .x) in
       let c4 = clips _ (c3 .proper) (most (a .x) (b .x) -ℤ p .x) (negℤ (w .x)) in
       let c5 = clips _ (c4 .proper) (p .y -ℤ least (a .y) (b .y)) (w .y) in

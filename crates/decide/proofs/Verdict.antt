@@ -1,6 +1,6 @@
 -- The computed code is the verdict: what clear and a mark promise. Assumes nothing.
 use mathlib.Core.Path.{_≡_, refl, sym, ap, subst, _∙_}
-use mathlib.Core.Logic.{_⊎_, inl, inr, ⊎-elim}
+use mathlib.Core.Logic.{inl, inr, ⊎-elim}
 use mathlib.Core.Bool.{Bool, true, false, cond}
 use Prim.Native.Nat.{ℕ, _*_}
 use native.Mathlib.Omega.{arith}
@@ -15,8 +15,8 @@ use Rattle.rules.specs.Ring.{Ring, ring}
 use Rattle.rules.specs.Place.{OnRing, Parity, OnOrInside}
 use Rattle.rules.specs.Contact.{Moment, heightAt, InBand, Contact}
 use Rattle.rules.specs.Verdict.{Mark, Verdict, NONE, answer}
-use Rattle.rules.proofs.Crossing.{flag, parity}
-use Rattle.rules.proofs.Place.{bit, parity-place, place-parity}
+use Rattle.decide.specs.Crossing.{flag, parity}
+use Rattle.decide.proofs.Parity.{bit, parity-place, place-parity}
 use Rattle.rules.proofs.Verdict.{mark-answers}
 use Rattle.decide.specs.Span.{Span, ticks, some, first}
 use Rattle.decide.specs.Touch.{touches, pointOf, motion, bandSpan, startPoint, over, onOrInside, meets, code}

@@ -1,2 +1,4 @@
+pub mod Side
+pub mod Crossing
 pub mod Span
 pub mod Touch

@@ -7,8 +7,8 @@ use Rattle.rules.specs.Reach.{Run, Piece}
 use Rattle.rules.specs.Ring.{Pt, times, Ring, ring, from, to}
 use Rattle.rules.specs.Place.{Where, on, inside, outside}
 use Rattle.rules.specs.Verdict.{NONE}
-use Rattle.rules.specs.Side.{o}
-use Rattle.rules.proofs.Crossing.{flag, parity}
+use Rattle.decide.specs.Side.{sideOf}
+use Rattle.decide.specs.Crossing.{flag, parity}
 use Rattle.decide.specs.Span.{Span, ticks, clip, some, first}
 
 abbrev pub least : ℤ → ℤ → ℤ
@@ -30,7 +30,7 @@ sameSide u v = (ltZ u (pos 0) && ltZ v (pos 0)) || (ltZ (pos 0) u && ltZ (pos 0)
 
 -- the moments of a span at which the point lies on the line of an edge and within its box
 unfoldable pub onLine : Pt → Pt → Span → Pt → Pt → Span
-onLine p w s a b = clip (clip s (o a b p) (swing a b w)) (negℤ (o a b p)) (negℤ (swing a b w))
+onLine p w s a b = clip (clip s (sideOf a b p) (swing a b w)) (negℤ (sideOf a b p)) (negℤ (swing a b w))
 
 unfoldable pub within : ℤ → ℤ → Span → ℤ → ℤ → Span
 within p w s a b = clip (clip s (p -ℤ least a b) w) (most a b -ℤ p) (negℤ w)
@@ -52,7 +52,7 @@ ranged a z b = leZ a z && leZ z b
 
 -- on the line of the edge, and within its box
 abbrev pub isOn : Pt → Pt → Pt → Bool
-isOn p a b = ranged (pos 0) (o a b p) (pos 0) && (ranged (least (a .x) (b .x)) (p .x) (most (a .x) (b .x)) && ranged (least (a .y) (b .y)) (p .y) (most (a .y) (b .y)))
+isOn p a b = ranged (pos 0) (sideOf a b p) (pos 0) && (ranged (least (a .x) (b .x)) (p .x) (most (a .x) (b .x)) && ranged (least (a .y) (b .y)) (p .y) (most (a .y) (b .y)))
 
 unfoldable pub onSome : Ring → Pt → ℕ → Bool
 onSome r p zero = false

@@ -12,7 +12,7 @@ use Rattle.rules.specs.Ring.{Pt, Ring, ring, from, to, On}
 use Rattle.rules.specs.Refusal.{First, Passes, Fault, each, refuse}
 use Rattle.rules.specs.Good.{Same, Folds, Meet, FirstMeet, bandNumber, Sized, sizedCheck, bandCheck, shapeChecks, footprintChecks, pieceChecks}
 use Rattle.rules.proofs.Ring.{next-one}
-use Rattle.rules.proofs.Share.{fold-ends, end-folds}
+use Rattle.decide.proofs.Share.{fold-ends, end-folds}
 use Rattle.rules.specs.Reach.{Piece, Reach}
 use Rattle.rules.specs.Place.{pointNumber, placeChecks}
 use Rattle.rules.proofs.Reach.{between-stable}

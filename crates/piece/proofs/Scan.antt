@@ -10,8 +10,8 @@ use Rattle.whole.proofs.Order.{ℕ-or}
 use Rattle.whole.proofs.Flag.{or-right}
 use Rattle.rules.specs.Ring.{Pt, Ring, from, to}
 use Rattle.rules.specs.Place.{on, inside, outside}
-use Rattle.rules.proofs.Crossing.{xor, flag, parity}
-use Rattle.rules.proofs.Share.{times-one}
+use Rattle.decide.specs.Crossing.{xor, flag, parity}
+use Rattle.decide.proofs.Share.{times-one}
 use Rattle.decide.specs.Touch.{isOn, onSome, place, over}
 
 module _ (r : Ring) (p : Pt) where

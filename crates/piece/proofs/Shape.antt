@@ -8,10 +8,10 @@ use Rattle.whole.proofs.Order.{antisym}
 use Rattle.whole.proofs.Polynomial.{vars6, poly, by-ring}
 use Rattle.whole.proofs.Flag.{false-true, or-yes, or-left, or-right, and-yes, and-both, lt-true, true-lt}
 use Rattle.rules.specs.Ring.{Pt, On, Share}
-use Rattle.rules.specs.Side.{side}
-use Rattle.rules.proofs.Segment.{no-line, Apart, right, left, right′, left′, below, above, before, behind, Sep, ahead, after, by-x, by-y, by-edge, by-way}
-use Rattle.rules.proofs.On.{on-or-off, off-not-on}
-use Rattle.rules.proofs.Share.{pt-eq, share-or-apart, apart-not-share}
+use Rattle.decide.specs.Side.{side}
+use Rattle.decide.proofs.Segment.{no-line, Apart, right, left, right′, left′, below, above, before, behind, Sep, ahead, after, by-x, by-y, by-edge, by-way}
+use Rattle.decide.proofs.On.{on-or-off, off-not-on}
+use Rattle.decide.proofs.Share.{pt-eq, share-or-apart, apart-not-share}
 use Rattle.decide.specs.Touch.{least, most, ranged, sameSide}
 use Rattle.decide.proofs.Touch.{same-yes}
 use Rattle.decide.proofs.Place.{least-low, most-high, least-of, most-of, range-yes, yes-range}

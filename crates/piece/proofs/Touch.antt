@@ -12,7 +12,7 @@ use Rattle.whole.proofs.Range.{abs-by, abs-add, abs-sub, abs-mul-le, abs-neg}
 use Rattle.rules.specs.Reach.{Speed, Run, Piece}
 use Rattle.rules.specs.Ring.{Pt, Ring}
 use Rattle.rules.specs.Good.{RunKnown, PieceKnown}
-use Rattle.rules.specs.Side.{o}
+use Rattle.decide.specs.Side.{sideOf}
 use Rattle.decide.specs.Span.{Span, ticks, some, first}
 use Rattle.rules.specs.Verdict.{NONE}
 use Rattle.decide.proofs.Place.{least-of, most-of}
@@ -43,7 +43,7 @@ module _ (p w : Pt) (s : Span) (a b : Pt) (h : Ready p w s a b) where
   up : natAbs (p .y -ℤ a .y) ≤ 32768
   up = diff (p .y) (a .y) (h .start .y) (h .from .y)
 
-  side-most : natAbs (o a b p) ≤ 2147483648
+  side-most : natAbs (sideOf a b p) ≤ 2147483648
   side-most = omega (arith, cross-most 32768 32768 (b .x -ℤ a .x) (b .y -ℤ a .y) (p .x -ℤ a .x) (p .y -ℤ a .y) run rise along up)
 
   swing-most : natAbs (swing a b w) ≤ 33423360
@@ -56,11 +56,11 @@ module _ (p w : Pt) (s : Span) (a b : Pt) (h : Ready p w s a b) where
   swing-steps = cross-steps _ _ _ _ (omega (arith, run)) (omega (arith, rise)) (omega (arith, h .speed .x)) (omega (arith, h .speed .y))
 
   -- the line's inequality, and the other way round
-  pub line : Slope (o a b p) (swing a b w)
+  pub line : Slope (sideOf a b p) (swing a b w)
   line = record { base = omega (arith, side-most); slope = omega (arith, swing-most) }
 
-  pub line′ : Slope (negℤ (o a b p)) (negℤ (swing a b w))
-  line′ = record { base = rw (abs-neg (o a b p)) (line .base); slope = rw (abs-neg (swing a b w)) (line .slope) }
+  pub line′ : Slope (negℤ (sideOf a b p)) (negℤ (swing a b w))
+  line′ = record { base = rw (abs-neg (sideOf a b p)) (line .base); slope = rw (abs-neg (swing a b w)) (line .slope) }
 
   pub small-line : Small (onLine p w s a b)
   unfolding onLine

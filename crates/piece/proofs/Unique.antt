@@ -7,7 +7,7 @@ use Rattle.rules.specs.Good.{runChecks, pieceChecks}
 use Rattle.rules.specs.Place.{Where, on, inside, outside, placeChecks}
 use Rattle.rules.proofs.Checks.{never-both}
 use Rattle.rules.proofs.Good.{sharp-run, sharp-piece, sharp-place}
-use Rattle.rules.proofs.Place.{one-place}
+use Rattle.decide.proofs.Parity.{one-place}
 use Rattle.refusal.specs.Said.{said, Finds}
 use Rattle.refusal.specs.declared.Checked.{Checked}
 use Rattle.refusal.proofs.Unique.{refused-one, finds-one}

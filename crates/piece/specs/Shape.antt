@@ -12,7 +12,7 @@ use Rattle.rules.specs.Reach.{Reach, Corners}
 use Rattle.rules.specs.Ring.{Pt, Ring, ring, from, to, On}
 use Rattle.rules.specs.Refusal.{First}
 use Rattle.rules.specs.Good.{Same, FirstMeet, Meet, area}
-use Rattle.rules.specs.Side.{o}
+use Rattle.decide.specs.Side.{sideOf}
 use Rattle.decide.specs.Touch.{least, most, ranged, sameSide}
 use Rattle.piece.specs.Decide.{Seeks}
 use Rattle.piece.specs.Table.{AllBoxed}
@@ -46,7 +46,7 @@ boxes a b c d = parted (a .x) (b .x) (c .x) (d .x) || parted (a .y) (b .y) (c .y
 
 -- one edge lies strictly on one side of the other's line
 abbrev pub aside : Pt → Pt → Pt → Pt → Bool
-aside a b c d = sameSide (o a b c) (o a b d)
+aside a b c d = sameSide (sideOf a b c) (sideOf a b d)
 
 -- two edges share a point
 abbrev pub shares : Pt → Pt → Pt → Pt → Bool

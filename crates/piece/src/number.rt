@@ -8,7 +8,7 @@ ghost use lib.ListN.{length, getD};
 ghost use mir.Syntax.{w16};
 ghost use mir.Val.{SFits};
 ghost use Rattle.rules.specs.Reach.{Reach, Speed};
-ghost use Rattle.rules.specs.Side.{side};
+ghost use Rattle.decide.specs.Side.{side};
 ghost use Rattle.decide.specs.Touch.{least, most, ranged, sameSide};
 ghost use Rattle.piece.specs.Decide.{Decides};
 ghost use Rattle.piece.specs.Steps.{SideSteps, CrossSteps};

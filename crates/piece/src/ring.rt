@@ -13,7 +13,7 @@ ghost use mathlib.Core.Path.{_≡_};
 ghost use Prim.Native.Nat.{_*_, _+_, _<_};
 ghost use lib.IntN.{_-ℤ_, _*ℤ_};
 ghost use Rattle.rules.specs.Ring.{ring, next};
-ghost use Rattle.rules.specs.Side.{o};
+ghost use Rattle.decide.specs.Side.{sideOf};
 ghost use Rattle.piece.specs.Shape.{Corner, equal, parted, boxes, aside, bends};
 
 // The number after i around a ring of n.
@@ -41,7 +41,7 @@ pub(crate) fn y(l: &[i32], i: usize) -> i64
 // Twice the area of three corners.
 pub(crate) fn turn(l: &[i32], i: usize, j: usize, k: usize) -> i64
     requires { ⌜ Corner (now l) i × (Corner (now l) j × Corner (now l) k) ⌝ }
-    ensures { λ r. ⌜ r ≡ o (ring (now (l .entry)) .at i) (ring (now (l .entry)) .at j) (ring (now (l .entry)) .at k) ⌝ }
+    ensures { λ r. ⌜ r ≡ sideOf (ring (now (l .entry)) .at i) (ring (now (l .entry)) .at j) (ring (now (l .entry)) .at k) ⌝ }
 {
     side(x(l, i), y(l, i), x(l, j), y(l, j), x(l, k), y(l, k))
 }

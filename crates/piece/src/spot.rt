@@ -20,7 +20,7 @@ ghost use Rattle.rules.specs.Ring.{ring};
 ghost use Rattle.rules.specs.Refusal.{Passes};
 ghost use Rattle.rules.specs.Place.{Place, placeChecks};
 ghost use Rattle.refusal.specs.Said.{Finds};
-ghost use Rattle.rules.proofs.Crossing.{xor, crosses};
+ghost use Rattle.decide.specs.Crossing.{xor, crosses};
 ghost use Rattle.decide.specs.Touch.{isOn, place, over};
 ghost use Rattle.piece.specs.Steps.{SideSteps};
 ghost use Rattle.piece.specs.Shape.{Holds, Corner};

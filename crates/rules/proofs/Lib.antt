@@ -1,12 +1,5 @@
 pub mod Ring
-pub mod Segment
-pub mod Crossing
 pub mod Checks
 pub mod Good
 pub mod Verdict
-pub mod On
-pub mod Share
-pub mod Counted
-pub mod Place
-pub mod Contact
 pub mod Reach

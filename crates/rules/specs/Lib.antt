@@ -1,6 +1,5 @@
 pub mod Reach
 pub mod Ring
-pub mod Side
 pub mod Refusal
 pub mod Good
 pub mod Place

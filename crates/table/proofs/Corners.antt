@@ -2,7 +2,7 @@
 use Prim.Native.Nat.{ℕ, _<_}
 use Rattle.rules.specs.Ring.{Pt, Ring, from, to, On}
 use Rattle.rules.specs.Place.{on, Place}
-use Rattle.rules.proofs.Share.{on-start}
+use Rattle.decide.proofs.Share.{on-start}
 
 pub edge-on : (r : Ring) (p : Pt) (i : ℕ) → i < r .size → On p (from r i) (to r i) → Place r p on
 edge-on r p i h o = record { edge = i; below = h; on = o }

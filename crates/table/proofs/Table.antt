@@ -6,8 +6,8 @@ use Rattle.rules.specs.Reach.{Run, Piece, run, piece as pieceSaid}
 use Rattle.rules.specs.Ring.{Pt, ring, next}
 use Rattle.rules.specs.Good.{pieceChecks}
 use Rattle.rules.specs.Place.{Count}
-use Rattle.rules.proofs.Crossing.{parity}
-use Rattle.rules.proofs.Place.{tally, tally-counts}
+use Rattle.decide.specs.Crossing.{parity}
+use Rattle.decide.proofs.Parity.{tally, tally-counts}
 use Rattle.refusal.specs.Said.{Finds}
 use Rattle.refusal.specs.declared.Checked.{Checked}
 use Rattle.refusal.specs.declared.Checked.the-variants.{Good, Refused}

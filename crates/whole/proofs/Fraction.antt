@@ -3,10 +3,10 @@ use mathlib.Core.Logic.{_⊎_, ⊎-elim}
 use Prim.Native.Nat.{ℕ, _*_, _≤_}
 use native.Mathlib.Omega.{arith}
 use lib.Dec.{leb→le, le→leb}
-use lib.IntN.{ℤ, pos, _+ℤ_, _*ℤ_, *ℤ-comm}
+use lib.IntN.{ℤ, pos, _*ℤ_, *ℤ-comm}
 use lib.Signed.{_≤ℤ_, _<ℤ_, quotZ}
 use Rattle.whole.specs.Fraction.{Frac, _≼_, _≺_, whole, mark, Floor}
-use Rattle.whole.proofs.Order.{mul-swap-r, le-or-lt, le-trans, lt-le, clash, mul-mono, cancel, cancel-next, nn-mul, pos-mul}
+use Rattle.whole.proofs.Order.{mul-swap-r, le-or-lt, le-trans, lt-le, clash, mul-mono, cancel, nn-mul, pos-mul}
 use Rattle.whole.proofs.Range.{quot}
 
 -- ---- order

@@ -3,7 +3,7 @@ use mathlib.Core.Path.{_∙_}
 use borrow.Author.Needs.{needs}
 use mir.Syntax.{w64}
 use Rattle.whole.proofs.Range.{read}
-use Rattle.rules.proofs.Share.{pt-eq}
+use Rattle.decide.proofs.Share.{pt-eq}
 use Rattle.piece.proofs.motion.motion_of.Statement.{statement}
 use Rattle.piece.proofs.motion.motion_of.Tie as tie
 

@@ -7,7 +7,7 @@ use borrow.Author.Needs.{needs}
 use mir.Syntax.{w64}
 use mir.Val.{toZ, ofZ}
 use Rattle.whole.proofs.Range.{read}
-use Rattle.rules.specs.Side.{o}
+use Rattle.decide.specs.Side.{sideOf}
 use Rattle.decide.specs.Span as decide
 use Rattle.decide.specs.Touch.{swing, onLine}
 use Rattle.piece.specs.Moving.{spanOf, Small, Slope}
@@ -23,7 +23,7 @@ start c = c .before .before .before .before .before .before .before
 
 -- the line's numbers
 abbrev α : tie.Start → ℤ
-α b = o (fromOf (b .args .e)) (toOf (b .args .e)) (startOf (b .args .m))
+α b = sideOf (fromOf (b .args .e)) (toOf (b .args .e)) (startOf (b .args .m))
 
 abbrev β : tie.Start → ℤ
 β b = swing (fromOf (b .args .e)) (toOf (b .args .e)) (speedOf (b .args .m))

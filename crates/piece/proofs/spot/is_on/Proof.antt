@@ -1,6 +1,6 @@
 -- `spot::is_on` is what it says. Assumes nothing.
 use Rattle.piece.specs.Place.{pt}
-use Rattle.rules.specs.Side.{o}
+use Rattle.decide.specs.Side.{sideOf}
 use Rattle.rules.specs.Ring.{Pt}
 use lib.IntN.{pos}
 use Rattle.decide.specs.Touch.{least, most, ranged, isOn}
@@ -16,7 +16,7 @@ use Rattle.piece.proofs.spot.is_on.Tie as tie
 
 -- the line, the width and the height of the box
 abbrev inLine : Pt → Pt → Pt → Bool
-inLine p a b = ranged (pos 0) (o a b p) (pos 0)
+inLine p a b = ranged (pos 0) (sideOf a b p) (pos 0)
 
 abbrev inWidth : Pt → Pt → Pt → Bool
 inWidth p a b = ranged (least (a .x) (b .x)) (p .x) (most (a .x) (b .x))

@@ -7,7 +7,7 @@ use Rattle.piece.specs.Shape.{Corner}
 use Rattle.piece.specs.Steps.{SideSteps}
 use Rattle.piece.specs.declared.spot.Point.{Point}
 use Rattle.decide.specs.Touch.{isOn, over}
-use Rattle.rules.proofs.Crossing.{crosses}
+use Rattle.decide.specs.Crossing.{crosses}
 use Rattle.rules.proofs.Ring.{next-below, next-inner}
 use Rattle.rules.specs.Ring.{Pt, Ring, ring, next, from, to}
 use Rattle.whole.proofs.Range.{field}

@@ -7,8 +7,8 @@ use lib.Signed.{_<ℤ_}
 use Rattle.whole.proofs.Difference.{all3, ring}
 use Rattle.whole.proofs.Order.{cancel-eq, sub-le, lt-le, le-sub}
 use Rattle.whole.proofs.Polynomial.{vars3, vars4, vars6, poly, by-ring}
 use Rattle.rules.specs.Ring.{Pt, On}
-use Rattle.rules.proofs.Segment.{Apart, Common, mean-none, mean-turn, apart, decide}
+use Rattle.decide.proofs.Segment.{Apart, Common, mean-none, mean-turn, apart, decide}
 
 -- ---- On is `Common` with a segment of one point
 one-point : (n j p : ℤ) → (n -ℤ j) *ℤ p +ℤ j *ℤ p ≡ n *ℤ p

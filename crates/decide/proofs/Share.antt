@@ -7,10 +7,10 @@ use lib.Signed.{_≤ℤ_, _<ℤ_}
 use Rattle.whole.proofs.Difference.{all, ring}
 use Rattle.whole.proofs.Order.{mul-swap, le-lt-trans, antisym, cancel-eq, pos-mul, nn-mul, lt-le, le-or-lt, le-sub, mul-mono, not-lt, clash}
 use Rattle.whole.proofs.Polynomial.{vars3, vars4, vars6, poly, num-val, by-ring}
 use Rattle.rules.specs.Ring.{Pt, times, On, Share}
 use Rattle.rules.specs.Good.{Fold}
-use Rattle.rules.proofs.Segment.{Apart, Common, mean-none, mean-times, apart, decide}
-use Rattle.rules.proofs.On.{on-turn}
+use Rattle.decide.proofs.Segment.{Apart, Common, mean-none, mean-times, apart, decide}
+use Rattle.decide.proofs.On.{on-turn}
 
 pub pt-eq : (p q : Pt) → p .x ≡ q .x → p .y ≡ q .y → p ≡ q
 pt-eq p q e f = λ i. record { x = e i; y = f i }

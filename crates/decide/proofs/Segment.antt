@@ -7,8 +7,8 @@ use lib.Signed.{_≤ℤ_, _<ℤ_}
 use Rattle.whole.proofs.Difference.{all2, all3, all4, ring}
 use Rattle.whole.proofs.Polynomial.{vars3, vars4, vars6, vars7, vars8, vars10, poly, num-val, by-ring}
 use Rattle.whole.proofs.Order.{np-mul, pos-neg-mul, neg-not, pos-not, turn-le, turn-ge, turn-gt, le-sub, lt-sub, sub-mono, sub-lt, sub-le, le-trans, le-lt-trans, lt-le, le-or-lt, clash, Tri, less, same, more, tri}
 use Rattle.rules.specs.Ring.{Pt}
-use Rattle.rules.specs.Side.{side, o}
+use Rattle.decide.specs.Side.{side, sideOf}
 
 -- a segment of one point has no sides
 pub no-line : (px py vx vy : ℤ) → side px py px py vx vy ≡ pos 0
@@ -16,10 +16,10 @@ no-line = vars4 _ λ ρ. simp (poly, num-val ρ) (by-ring _ _ _ tt)
 
 -- the closed segments a b and p q have no point in common: one of four lines has them strictly on its two sides
 pub data Apart (a b p q : Pt) : Type 0 where
-  right : o a b p <ℤ pos 0 → o a b q <ℤ pos 0 → Apart a b p q
-  left : pos 0 <ℤ o a b p → pos 0 <ℤ o a b q → Apart a b p q
-  right′ : o p q a <ℤ pos 0 → o p q b <ℤ pos 0 → Apart a b p q
-  left′ : pos 0 <ℤ o p q a → pos 0 <ℤ o p q b → Apart a b p q
+  right : sideOf a b p <ℤ pos 0 → sideOf a b q <ℤ pos 0 → Apart a b p q
+  left : pos 0 <ℤ sideOf a b p → pos 0 <ℤ sideOf a b q → Apart a b p q
+  right′ : sideOf p q a <ℤ pos 0 → sideOf p q b <ℤ pos 0 → Apart a b p q
+  left′ : pos 0 <ℤ sideOf p q a → pos 0 <ℤ sideOf p q b → Apart a b p q
   below : p .y <ℤ a .y → p .y <ℤ b .y → q .y <ℤ a .y → q .y <ℤ b .y → Apart a b p q
   above : a .y <ℤ p .y → b .y <ℤ p .y → a .y <ℤ q .y → b .y <ℤ q .y → Apart a b p q
   before : p .x <ℤ a .x → p .x <ℤ b .x → q .x <ℤ a .x → q .x <ℤ b .x → Apart a b p q
@@ -89,7 +89,7 @@ lin₁ = vars10 _ λ ρ. simp poly (by-ring _ _ _ tt)
 lin₂ : (ax ay bx by n i : ℤ) → (bx -ℤ ax) *ℤ (((n -ℤ i) *ℤ ay +ℤ i *ℤ by) -ℤ n *ℤ ay) -ℤ (by -ℤ ay) *ℤ (((n -ℤ i) *ℤ ax +ℤ i *ℤ bx) -ℤ n *ℤ ax) ≡ pos 0
 lin₂ = vars6 _ λ ρ. simp (poly, num-val ρ) (by-ring _ _ _ tt)
 
-on-line : (a b p q : Pt) (c : Common a b p q) → (c .n -ℤ c .j) *ℤ o a b p +ℤ c .j *ℤ o a b q ≡ pos 0
+on-line : (a b p q : Pt) (c : Common a b p q) → (c .n -ℤ c .j) *ℤ sideOf a b p +ℤ c .j *ℤ sideOf a b q ≡ pos 0
 on-line a b p q c = lin₁ (a .x) (a .y) (b .x) (b .y) (p .x) (p .y) (q .x) (q .y) (c .n) (c .j) ∙ rw (← (c .x), ← (c .y)) (lin₂ (a .x) (a .y) (b .x) (b .y) (c .n) (c .i))
 
 unfoldable pub flipped : (a b p q : Pt) → Common a b p q → Common p q a b
@@ -131,7 +131,7 @@ sub-zero : (u v w : ℤ) → v -ℤ u ≡ w → w ≡ pos 0 → u ≡ v
 sub-zero = all3 _ λ a a′ b b′ c c′. simp ring (omega arith)
 
 -- p, on the line a b, lies between a and b
-on-up : (a b p q : Pt) → o a b p ≡ pos 0 → a .x <ℤ b .x → a .x ≤ℤ p .x → p .x ≤ℤ b .x → Common a b p q
+on-up : (a b p q : Pt) → sideOf a b p ≡ pos 0 → a .x <ℤ b .x → a .x ≤ℤ p .x → p .x ≤ℤ b .x → Common a b p q
 on-up a b p q z h k l = record {
   n = b .x -ℤ a .x;
   i = p .x -ℤ a .x;
@@ -164,13 +164,13 @@ swapped a b p q c = record {
 turn-side : (ax ay bx by px py : ℤ) → side bx by ax ay px py ≡ negℤ (side ax ay bx by px py)
 turn-side = vars6 _ λ ρ. simp poly (by-ring _ _ _ tt)
 
-pub turn-o : (a b p : Pt) → o b a p ≡ negℤ (o a b p)
+pub turn-o : (a b p : Pt) → sideOf b a p ≡ negℤ (sideOf a b p)
 turn-o a b p = turn-side (a .x) (a .y) (b .x) (b .y) (p .x) (p .y)
 
 turned : (a b p q : Pt) → Common b a p q → Common a b p q
 turned a b p q c = flipped p q a b (swapped p q a b (flipped b a p q c))
 
-on-down : (a b p q : Pt) → o a b p ≡ pos 0 → b .x <ℤ a .x → b .x ≤ℤ p .x → p .x ≤ℤ a .x → Common a b p q
+on-down : (a b p q : Pt) → sideOf a b p ≡ pos 0 → b .x <ℤ a .x → b .x ≤ℤ p .x → p .x ≤ℤ a .x → Common a b p q
 on-down a b p q z h k l = turned a b p q (on-up b a p q (turn-o a b p ∙ ap negℤ z) h k l)
 
 lt-trans : (u v w : ℤ) → u <ℤ v → v <ℤ w → u <ℤ w
@@ -184,13 +184,13 @@ pub data Sep (u v s t : ℤ) : Type 0 where
   ahead : s <ℤ u → s <ℤ v → t <ℤ u → t <ℤ v → Sep u v s t
   after : u <ℤ s → v <ℤ s → u <ℤ t → v <ℤ t → Sep u v s t
 
-at-up : (a b p q : Pt) → o a b p ≡ pos 0 → Off (a .x) (b .x) → a .x ≤ℤ p .x → p .x ≤ℤ b .x → Common a b p q
+at-up : (a b p q : Pt) → sideOf a b p ≡ pos 0 → Off (a .x) (b .x) → a .x ≤ℤ p .x → p .x ≤ℤ b .x → Common a b p q
 at-up a b p q z d k l = ⊎-elim (λ h. on-up a b p q z h k l) (λ h. absurd (clash _ _ h (le-trans _ _ _ k l))) d
 
-at-down : (a b p q : Pt) → o a b p ≡ pos 0 → Off (a .x) (b .x) → b .x ≤ℤ p .x → p .x ≤ℤ a .x → Common a b p q
+at-down : (a b p q : Pt) → sideOf a b p ≡ pos 0 → Off (a .x) (b .x) → b .x ≤ℤ p .x → p .x ≤ℤ a .x → Common a b p q
 at-down a b p q z d k l = ⊎-elim (λ h. absurd (clash _ _ h (le-trans _ _ _ k l))) (λ h. on-down a b p q z h k l) d
 
-coll-x : (a b p q : Pt) → o a b p ≡ pos 0 → o a b q ≡ pos 0 → o p q a ≡ pos 0 → Off (a .x) (b .x) → Loc (a .x) (b .x) (p .x) → Loc (a .x) (b .x) (q .x) → Sep (a .x) (b .x) (p .x) (q .x) ⊎ Common a b p q
+coll-x : (a b p q : Pt) → sideOf a b p ≡ pos 0 → sideOf a b q ≡ pos 0 → sideOf p q a ≡ pos 0 → Off (a .x) (b .x) → Loc (a .x) (b .x) (p .x) → Loc (a .x) (b .x) (q .x) → Sep (a .x) (b .x) (p .x) (q .x) ⊎ Common a b p q
 coll-x a b p q z1 z2 z3 d (up k l) m = inr (at-up a b p q z1 d k l)
 coll-x a b p q z1 z2 z3 d (down k l) m = inr (at-down a b p q z1 d k l)
 coll-x a b p q z1 z2 z3 d (low h i) (low j k) = inl (ahead h i j k)
@@ -212,7 +212,7 @@ record Flat (u v s t : ℤ) : Type 0 where
   us : u ≡ s
 
 -- all on one line: the x ranges are separate, or there is a common point, or all x are one
-flat : (a b p q : Pt) → o a b p ≡ pos 0 → o a b q ≡ pos 0 → o p q a ≡ pos 0 → o p q b ≡ pos 0 → (Sep (a .x) (b .x) (p .x) (q .x) ⊎ Common a b p q) ⊎ Flat (a .x) (b .x) (p .x) (q .x)
+flat : (a b p q : Pt) → sideOf a b p ≡ pos 0 → sideOf a b q ≡ pos 0 → sideOf p q a ≡ pos 0 → sideOf p q b ≡ pos 0 → (Sep (a .x) (b .x) (p .x) (q .x) ⊎ Common a b p q) ⊎ Flat (a .x) (b .x) (p .x) (q .x)
 flat a b p q z1 z2 z3 z4 = first (tri (a .x) (b .x))
   where
     out : Off (a .x) (b .x) → Sep (a .x) (b .x) (p .x) (q .x) ⊎ Common a b p q
@@ -243,7 +243,7 @@ tr p = record { x = p .y; y = p .x }
 tr-side : (ax ay bx by px py : ℤ) → side ay ax by bx py px ≡ negℤ (side ax ay bx by px py)
 tr-side = vars6 _ λ ρ. simp poly (by-ring _ _ _ tt)
 
-tr-zero : (a b p : Pt) → o a b p ≡ pos 0 → o (tr a) (tr b) (tr p) ≡ pos 0
+tr-zero : (a b p : Pt) → sideOf a b p ≡ pos 0 → sideOf (tr a) (tr b) (tr p) ≡ pos 0
 tr-zero a b p z = tr-side (a .x) (a .y) (b .x) (b .y) (p .x) (p .y) ∙ ap negℤ z
 
 tr-common : (a b p q : Pt) → Common (tr a) (tr b) (tr p) (tr q) → Common a b p q
@@ -261,7 +261,7 @@ pub by-y : (a b p q : Pt) → Sep (a .y) (b .y) (p .y) (q .y) → Apart a b p q
 by-y a b p q (ahead h i j k) = below h i j k
 by-y a b p q (after h i j k) = above h i j k
 
-coll : (a b p q : Pt) → o a b p ≡ pos 0 → o a b q ≡ pos 0 → o p q a ≡ pos 0 → o p q b ≡ pos 0 → Apart a b p q ⊎ Common a b p q
+coll : (a b p q : Pt) → sideOf a b p ≡ pos 0 → sideOf a b q ≡ pos 0 → sideOf p q a ≡ pos 0 → sideOf p q b ≡ pos 0 → Apart a b p q ⊎ Common a b p q
 coll a b p q z1 z2 z3 z4 = ⊎-elim (λ h. ⊎-elim (λ s. inl (by-x a b p q s)) inr h) (λ f. ⊎-elim (λ h. ⊎-elim (λ s. inl (by-y a b p q s)) (λ c. inr (tr-common a b p q c)) h) (λ g. inr (one f g)) (flat (tr a) (tr b) (tr p) (tr q) (tr-zero a b p z1) (tr-zero a b q z2) (tr-zero p q a z3) (tr-zero p q b z4))) (flat a b p q z1 z2 z3 z4)
   where
     one : Flat (a .x) (b .x) (p .x) (q .x) → Flat (a .y) (b .y) (p .y) (q .y) → Common a b p q
@@ -289,11 +289,11 @@ pub data Signs (u v : ℤ) : Type 0 where
   plus : pos 0 <ℤ u → pos 0 <ℤ v → Signs u v
 
 -- both ends of one segment on one side of the other
-pub by-edge : (a b p q : Pt) → Signs (o a b p) (o a b q) → Apart a b p q
+pub by-edge : (a b p q : Pt) → Signs (sideOf a b p) (sideOf a b q) → Apart a b p q
 by-edge a b p q (minus h k) = right h k
 by-edge a b p q (plus h k) = left h k
 
-pub by-way : (a b p q : Pt) → Signs (o p q a) (o p q b) → Apart a b p q
+pub by-way : (a b p q : Pt) → Signs (sideOf p q a) (sideOf p q b) → Apart a b p q
 by-way a b p q (minus h k) = right′ h k
 by-way a b p q (plus h k) = left′ h k
 
@@ -344,20 +344,20 @@ meet-x = vars8 _ λ ρ. simp poly (by-ring _ _ _ tt)
 meet-y : (ax ay bx by px py qx qy : ℤ) → ((side ax ay bx by qx qy -ℤ side ax ay bx by px py) -ℤ side px py qx qy ax ay) *ℤ ay +ℤ side px py qx qy ax ay *ℤ by ≡ ((side ax ay bx by qx qy -ℤ side ax ay bx by px py) -ℤ negℤ (side ax ay bx by px py)) *ℤ py +ℤ negℤ (side ax ay bx by px py) *ℤ qy
 meet-y = vars8 _ λ ρ. simp poly (by-ring _ _ _ tt)
 
-meet : (a b p q : Pt) → Opp (o a b p) (o a b q) → Opp (o p q a) (o p q b) → o a b p <ℤ o a b q → Common a b p q
+meet : (a b p q : Pt) → Opp (sideOf a b p) (sideOf a b q) → Opp (sideOf p q a) (sideOf p q b) → sideOf a b p <ℤ sideOf a b q → Common a b p q
 meet a b p q m k h =
     let e = sum4 (a .x) (a .y) (b .x) (b .y) (p .x) (p .y) (q .x) (q .y) in
-    let f = rising (o a b p) (o a b q) m h in
-    let g = rising (o p q b) (o p q a) (turn-opp _ _ k) (other (o a b p) (o a b q) (o p q a) (o p q b) e h) in
+    let f = rising (sideOf a b p) (sideOf a b q) m h in
+    let g = rising (sideOf p q b) (sideOf p q a) (turn-opp _ _ k) (other (sideOf a b p) (sideOf a b q) (sideOf p q a) (sideOf p q b) e h) in
     record {
-      n = o a b q -ℤ o a b p;
-      i = o p q a;
-      j = negℤ (o a b p);
+      n = sideOf a b q -ℤ sideOf a b p;
+      i = sideOf p q a;
+      j = negℤ (sideOf a b p);
       some = lt-sub _ _ h;
       i-low = g .1;
-      i-high = fit (o a b p) (o a b q) (o p q a) (o p q b) e (g .0);
-      j-low = turn-le (o a b p) (f .0);
-      j-high = neg-fit (o a b p) (o a b q) (f .1);
+      i-high = fit (sideOf a b p) (sideOf a b q) (sideOf p q a) (sideOf p q b) e (g .0);
+      j-low = turn-le (sideOf a b p) (f .0);
+      j-high = neg-fit (sideOf a b p) (sideOf a b q) (f .1);
       x = meet-x (a .x) (a .y) (b .x) (b .y) (p .x) (p .y) (q .x) (q .y);
       y = meet-y (a .x) (a .y) (b .x) (b .y) (p .x) (p .y) (q .x) (q .y);
     }
@@ -367,16 +367,16 @@ neg-opp : (u v s t : ℤ) → s ≡ negℤ u → t ≡ negℤ v → Opp u v → 
 neg-opp u v s t e f (rise h k) = fall (rw e (turn-le u h)) (rw f (turn-ge v k))
 neg-opp u v s t e f (fall h k) = rise (rw e (turn-ge u h)) (rw f (turn-le v k))
 
-crossing : (a b p q : Pt) → Opp (o a b p) (o a b q) → Opp (o p q a) (o p q b) → Tri (o a b p) (o a b q) → Apart a b p q ⊎ Common a b p q
+crossing : (a b p q : Pt) → Opp (sideOf a b p) (sideOf a b q) → Opp (sideOf p q a) (sideOf p q b) → Tri (sideOf a b p) (sideOf a b q) → Apart a b p q ⊎ Common a b p q
 crossing a b p q m k (less h) = inr (meet a b p q m k h)
 crossing a b p q m k (more h) = inr (swapped a b p q (meet a b q p (turn-opp _ _ m) (neg-opp _ _ _ _ (turn-o p q a) (turn-o p q b) k) h))
 crossing a b p q m k (same e) =
     let f = level _ _ m e in
-    let g = level _ _ k (other-eq (o a b p) (o a b q) (o p q a) (o p q b) (sum4 (a .x) (a .y) (b .x) (b .y) (p .x) (p .y) (q .x) (q .y)) e) in
+    let g = level _ _ k (other-eq (sideOf a b p) (sideOf a b q) (sideOf p q a) (sideOf p q b) (sum4 (a .x) (a .y) (b .x) (b .y) (p .x) (p .y) (q .x) (q .y)) e) in
     coll a b p q (f .0) (f .1) (g .0) (g .1)
 
 pub decide : (a b p q : Pt) → Apart a b p q ⊎ Common a b p q
 decide a b p q =
     ⊎-elim (λ s. inl (by-edge a b p q s))
-    (λ m. ⊎-elim (λ s. inl (by-way a b p q s)) (λ k. crossing a b p q m k (tri (o a b p) (o a b q))) (sides (o p q a) (o p q b)))
-    (sides (o a b p) (o a b q))
+    (λ m. ⊎-elim (λ s. inl (by-way a b p q s)) (λ k. crossing a b p q m k (tri (sideOf a b p) (sideOf a b q))) (sides (sideOf p q a) (sideOf p q b)))
+    (sides (sideOf a b p) (sideOf a b q))

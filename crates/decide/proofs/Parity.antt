@@ -10,12 +10,13 @@ use Rattle.whole.proofs.Difference.{all4, ring}
 use Rattle.whole.proofs.Order.{pos-mul, mul-mono, mul-mono-lt, cancel, cancel-lt, lt-le, ℕ-or}
 use Rattle.whole.proofs.Flag.{same-flag, decided, false-true}
 use Rattle.whole.proofs.Polynomial.{vars9, poly, by-ring}
 use Rattle.rules.specs.Ring.{Pt, Ring, from, to, On}
 use Rattle.rules.specs.Place.{OnRing, Counted, Count, start, more, pass, Where, on, inside, outside, Parity, Place, OnOrInside}
-use Rattle.rules.specs.Side.{o, side}
-use Rattle.rules.proofs.Crossing.{tst, xor, xor-unit, crosses, flag, parity, parity-ext}
-use Rattle.rules.proofs.Counted.{counted-yes, yes-counted}
-use Rattle.rules.proofs.On.{on-or-off, off-not-on, move, on-move, on-unmove}
+use Rattle.decide.specs.Side.{sideOf, side}
+use Rattle.decide.specs.Crossing.{counts, xor, crosses, flag, parity}
+use Rattle.decide.proofs.Crossing.{xor-unit, parity-ext}
+use Rattle.decide.proofs.Counted.{counted-yes, yes-counted}
+use Rattle.decide.proofs.On.{on-or-off, off-not-on, move, on-move, on-unmove}
 
 -- ---- the count and the flags
 abbrev pub bit : Bool → ℕ
@@ -115,16 +116,16 @@ module _ (k : ℤ) (s : Pt) (l : pos 0 <ℤ k) where
   pos-scaled : (c z : ℤ) → pos 0 <ℤ c → ltZ (pos 0) (z *ℤ c) ≡ ltZ (pos 0) z
   pos-scaled c z h = same-flag _ _ (λ t. cancel-lt (pos 0) z c h (rw (zero-*ℤ c) (ltZ-yes t)) .lt) (λ t. (rw (zero-*ℤ c) at (mul-mono-lt (pos 0) z c (ltZ-yes t) h)) .lt)
 
-  tst-scaled : (s t : Bool) (c z : ℤ) → pos 0 <ℤ c → tst s t (z *ℤ c) ≡ tst s t z
-  tst-scaled true true c z h = refl
-  tst-scaled true false c z h = neg-scaled c z h
-  tst-scaled false true c z h = pos-scaled c z h
-  tst-scaled false false c z h = refl
+  counts-scaled : (s t : Bool) (c z : ℤ) → pos 0 <ℤ c → counts s t (z *ℤ c) ≡ counts s t z
+  counts-scaled true true c z h = refl
+  counts-scaled true false c z h = neg-scaled c z h
+  counts-scaled false true c z h = pos-scaled c z h
+  counts-scaled false false c z h = refl
 
   crosses-moved : (a b p : Pt) → crosses (move k s a) (move k s b) (move k s p) ≡ crosses a b p
   crosses-moved a b p =
       rw (le-moved (s .x) (a .x) (p .x), le-moved (s .x) (b .x) (p .x), side-moved k (s .x) (s .y) (a .x) (a .y) (b .x) (b .y) (p .x) (p .y))
-      (tst-scaled (leZ (a .x) (p .x)) (leZ (b .x) (p .x)) (k *ℤ k) (o a b p) (pos-mul k k l l))
+      (counts-scaled (leZ (a .x) (p .x)) (leZ (b .x) (p .x)) (k *ℤ k) (sideOf a b p) (pos-mul k k l l))
 
   -- the ring with each corner moved
   abbrev pub moved : Ring → Ring

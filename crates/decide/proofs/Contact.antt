@@ -8,14 +8,14 @@ use Rattle.whole.specs.Fraction.{Frac, _≈_, whole}
 use Rattle.whole.proofs.Fraction.{scaled, trans}
 use Rattle.whole.proofs.Order.{eq-le, mul-mono, cancel, lt-le}
 use Rattle.whole.proofs.Polynomial.{vars5, poly, num-val, by-ring}
 use Rattle.rules.specs.Reach.{Run, Piece}
-use Rattle.rules.specs.Ring.{Pt, Ring}
+use Rattle.rules.specs.Ring.{Ring}
 use Rattle.rules.specs.Ring as corners
 use Rattle.rules.specs.Place.{OnOrInside}
 use Rattle.rules.specs.Contact.{Moment, pointAt, ringAt, Contact}
-use Rattle.rules.proofs.On.{move, origin}
-use Rattle.rules.proofs.Share.{pt-eq}
-use Rattle.rules.proofs.Place.{moved, met-moved, met-unmoved}
+use Rattle.decide.proofs.On.{move, origin}
+use Rattle.decide.proofs.Share.{pt-eq}
+use Rattle.decide.proofs.Parity.{moved, met-moved, met-unmoved}
 
 -- ---- the same moment with c times the numbers
 along-scaled : (c d n p v : ℤ) → c *ℤ (d *ℤ p +ℤ n *ℤ v) +ℤ pos 0 ≡ (c *ℤ d) *ℤ p +ℤ (c *ℤ n) *ℤ v

@@ -1,7 +1,7 @@
 -- A motion from p to q that does not touch the edge a b: the edge's crossing flags at p and at q differ as the flags of its two ends do.
 -- Summed round a ring every corner stands twice, so the parity of the crossings is the same at p and at q. Assumes nothing.
 use mathlib.Core.Path.{_≡_, refl, sym, ap, subst, _∙_}
-use mathlib.Core.Bool.{Bool, true, false, not}
+use mathlib.Core.Bool.{Bool, true, false}
 use Prim.Native.Nat.{ℕ, zero, suc, _<_}
 use native.Mathlib.Omega.{arith}
 use lib.IntN.{ℤ, pos, negℤ, _-ℤ_, _*ℤ_}
@@ -10,28 +10,15 @@ use Rattle.whole.proofs.Difference.{all2, all3, ring}
 use Rattle.whole.proofs.Polynomial.{vars3, vars4, vars6, vars8, poly, num-val, by-ring}
 use Rattle.whole.proofs.Order.{nn-mul, np-mul, pn-mul, pp-mul, neg-mul, not-lt, not-le, clash, turn-gt, le-sub, lt-sub, sub-lt, lt-le}
 use Rattle.whole.proofs.Flag.{lt-true, lt-false, le-true, le-false, true-lt, false-lt, true-le, false-le}
 use Rattle.rules.specs.Ring.{Pt, Ring, from, to}
 use Rattle.rules.proofs.Ring.{next-inner, next-last}
-use Rattle.rules.specs.Side.{o, side}
-use Rattle.rules.proofs.Segment.{Apart, right, left, right′, left′, below, above, before, behind}
-
-abbrev pub tst : Bool → Bool → ℤ → Bool
-tst true true z = false
-tst true false z = ltZ z (pos 0)
-tst false true z = ltZ (pos 0) z
-tst false false z = false
-
-abbrev pub xor : Bool → Bool → Bool
-xor true b = not b
-xor false b = b
-
--- the edge a b crosses the upward ray from p
-abbrev pub crosses : Pt → Pt → Pt → Bool
-crosses a b p = tst (leZ (a .x) (p .x)) (leZ (b .x) (p .x)) (o a b p)
+use Rattle.decide.specs.Side.{sideOf, side}
+use Rattle.decide.specs.Crossing.{counts, xor, crosses, flag, parity}
+use Rattle.decide.proofs.Segment.{Apart, right, left, right′, left′, below, above, before, behind}
 
 -- v lies over the segment p q
 abbrev pub over : Pt → Pt → Pt → Bool
-over v p q = tst (leZ (v .x) (p .x)) (leZ (v .x) (q .x)) (o p q v)
+over v p q = counts (leZ (v .x) (p .x)) (leZ (v .x) (q .x)) (sideOf p q v)
 
 -- ---- signs
 -- a flag and what it says
@@ -62,7 +49,7 @@ module _ (r s t e y z : ℤ) (hs : s <ℤ pos 0) (ht : t <ℤ pos 0) (eq : r *�
   high : y <ℤ pos 0 → pos 0 ≤ℤ z → pos 0 <ℤ (r *ℤ e)
   high a b = diff-pos _ _ _ eq (neg-mul s y hs a) (pn-mul t z (lt-le _ _ ht) b)
 
-  core : (A B g : Bool) → Says A (pos 0 ≤ℤ y) (y <ℤ pos 0) → Says B (pos 0 ≤ℤ z) (z <ℤ pos 0) → Says g (pos 0 <ℤ e) (e ≤ℤ pos 0) → tst A B r ≡ xor A B & g
+  core : (A B g : Bool) → Says A (pos 0 ≤ℤ y) (y <ℤ pos 0) → Says B (pos 0 ≤ℤ z) (z <ℤ pos 0) → Says g (pos 0 <ℤ e) (e ≤ℤ pos 0) → counts A B r ≡ xor A B & g
   core true true true a b c = refl
   core true true false a b c = refl
   core false false true a b c = refl
@@ -75,7 +62,7 @@ module _ (r s t e y z : ℤ) (hs : s <ℤ pos 0) (ht : t <ℤ pos 0) (eq : r *�
 ge-sub : (a b : ℤ) → b ≤ℤ a → (b -ℤ a) ≤ℤ pos 0
 ge-sub = all2 _ λ a a′ b b′. simp ring (omega arith)
 
-pub sign : (r s t e f y u z v : ℤ) → s <ℤ pos 0 → t <ℤ pos 0 → r *ℤ (f -ℤ e) ≡ s *ℤ (u -ℤ y) -ℤ t *ℤ (v -ℤ z) → tst (leZ y u) (leZ z v) r ≡ xor (leZ y u) (leZ z v) & ltZ e f
+pub sign : (r s t e f y u z v : ℤ) → s <ℤ pos 0 → t <ℤ pos 0 → r *ℤ (f -ℤ e) ≡ s *ℤ (u -ℤ y) -ℤ t *ℤ (v -ℤ z) → counts (leZ y u) (leZ z v) r ≡ xor (leZ y u) (leZ z v) & ltZ e f
 sign r s t e f y u z v hs ht eq =
     core r s t (f -ℤ e) (u -ℤ y) (v -ℤ z) hs ht eq (leZ y u) (leZ z v) (ltZ e f)
     (says (leZ y u) (λ h. le-sub _ _ (le-true y u h)) (λ h. sub-lt _ _ (le-false y u h)))
@@ -92,7 +79,7 @@ turned r s t e f y z h = left r e f ∙ ap negℤ h ∙ right s y t z
     right : (s y t z : ℤ) → negℤ (s *ℤ y -ℤ t *ℤ z) ≡ negℤ s *ℤ y -ℤ negℤ t *ℤ z
     right = vars4 _ λ ρ. simp poly (by-ring _ _ _ tt)
 
-pub sign⁺ : (r s t e f y u z v : ℤ) → pos 0 <ℤ s → pos 0 <ℤ t → r *ℤ (f -ℤ e) ≡ s *ℤ (u -ℤ y) -ℤ t *ℤ (v -ℤ z) → tst (leZ y u) (leZ z v) r ≡ xor (leZ y u) (leZ z v) & ltZ f e
+pub sign⁺ : (r s t e f y u z v : ℤ) → pos 0 <ℤ s → pos 0 <ℤ t → r *ℤ (f -ℤ e) ≡ s *ℤ (u -ℤ y) -ℤ t *ℤ (v -ℤ z) → counts (leZ y u) (leZ z v) r ≡ xor (leZ y u) (leZ z v) & ltZ f e
 sign⁺ r s t e f y u z v hs ht eq = sign r (negℤ s) (negℤ t) f e y u z v (turn-gt s hs) (turn-gt t ht) (turned r s t e f (u -ℤ y) (v -ℤ z) eq)
 
 -- ---- four flags
@@ -158,40 +145,40 @@ tri′ = vars6 _ λ ρ. simp (poly, num-val ρ) (by-ring _ _ _ tt)
 pub edge : (a b p q : Pt) → Apart a b p q → xor (crosses a b p) (crosses a b q) ≡ xor (over a p q) (over b p q)
 edge a b p q (right h k) =
     four a b p q (ltZ (a .x) (b .x))
-    (sign (o a b p) _ _ (a .x) (b .x) (a .x) (p .x) (b .x) (p .x) h h (own (o a b p) (a .x) (b .x) (p .x)))
-    (sign (o a b q) _ _ (a .x) (b .x) (a .x) (q .x) (b .x) (q .x) k k (own (o a b q) (a .x) (b .x) (q .x)))
-    (sign (o p q a) _ _ (a .x) (b .x) (a .x) (p .x) (a .x) (q .x) k h (h-a (a .x) (a .y) (b .x) (b .y) (p .x) (p .y) (q .x) (q .y)))
-    (sign (o p q b) _ _ (a .x) (b .x) (b .x) (p .x) (b .x) (q .x) k h (h-b (a .x) (a .y) (b .x) (b .y) (p .x) (p .y) (q .x) (q .y)))
+    (sign (sideOf a b p) _ _ (a .x) (b .x) (a .x) (p .x) (b .x) (p .x) h h (own (sideOf a b p) (a .x) (b .x) (p .x)))
+    (sign (sideOf a b q) _ _ (a .x) (b .x) (a .x) (q .x) (b .x) (q .x) k k (own (sideOf a b q) (a .x) (b .x) (q .x)))
+    (sign (sideOf p q a) _ _ (a .x) (b .x) (a .x) (p .x) (a .x) (q .x) k h (h-a (a .x) (a .y) (b .x) (b .y) (p .x) (p .y) (q .x) (q .y)))
+    (sign (sideOf p q b) _ _ (a .x) (b .x) (b .x) (p .x) (b .x) (q .x) k h (h-b (a .x) (a .y) (b .x) (b .y) (p .x) (p .y) (q .x) (q .y)))
 edge a b p q (left h k) =
     four a b p q (ltZ (b .x) (a .x))
-    (sign⁺ (o a b p) _ _ (a .x) (b .x) (a .x) (p .x) (b .x) (p .x) h h (own (o a b p) (a .x) (b .x) (p .x)))
-    (sign⁺ (o a b q) _ _ (a .x) (b .x) (a .x) (q .x) (b .x) (q .x) k k (own (o a b q) (a .x) (b .x) (q .x)))
-    (sign⁺ (o p q a) _ _ (a .x) (b .x) (a .x) (p .x) (a .x) (q .x) k h (h-a (a .x) (a .y) (b .x) (b .y) (p .x) (p .y) (q .x) (q .y)))
-    (sign⁺ (o p q b) _ _ (a .x) (b .x) (b .x) (p .x) (b .x) (q .x) k h (h-b (a .x) (a .y) (b .x) (b .y) (p .x) (p .y) (q .x) (q .y)))
+    (sign⁺ (sideOf a b p) _ _ (a .x) (b .x) (a .x) (p .x) (b .x) (p .x) h h (own (sideOf a b p) (a .x) (b .x) (p .x)))
+    (sign⁺ (sideOf a b q) _ _ (a .x) (b .x) (a .x) (q .x) (b .x) (q .x) k k (own (sideOf a b q) (a .x) (b .x) (q .x)))
+    (sign⁺ (sideOf p q a) _ _ (a .x) (b .x) (a .x) (p .x) (a .x) (q .x) k h (h-a (a .x) (a .y) (b .x) (b .y) (p .x) (p .y) (q .x) (q .y)))
+    (sign⁺ (sideOf p q b) _ _ (a .x) (b .x) (b .x) (p .x) (b .x) (q .x) k h (h-b (a .x) (a .y) (b .x) (b .y) (p .x) (p .y) (q .x) (q .y)))
 edge a b p q (right′ h k) =
     four a b p q (ltZ (q .x) (p .x))
-    (sign (o a b p) _ _ (q .x) (p .x) (a .x) (p .x) (b .x) (p .x) k h (c-p (a .x) (a .y) (b .x) (b .y) (p .x) (p .y) (q .x) (q .y)))
-    (sign (o a b q) _ _ (q .x) (p .x) (a .x) (q .x) (b .x) (q .x) k h (c-q (a .x) (a .y) (b .x) (b .y) (p .x) (p .y) (q .x) (q .y)))
-    (sign (o p q a) _ _ (q .x) (p .x) (a .x) (p .x) (a .x) (q .x) h h (own′ (o p q a) (q .x) (p .x) (a .x)))
-    (sign (o p q b) _ _ (q .x) (p .x) (b .x) (p .x) (b .x) (q .x) k k (own′ (o p q b) (q .x) (p .x) (b .x)))
+    (sign (sideOf a b p) _ _ (q .x) (p .x) (a .x) (p .x) (b .x) (p .x) k h (c-p (a .x) (a .y) (b .x) (b .y) (p .x) (p .y) (q .x) (q .y)))
+    (sign (sideOf a b q) _ _ (q .x) (p .x) (a .x) (q .x) (b .x) (q .x) k h (c-q (a .x) (a .y) (b .x) (b .y) (p .x) (p .y) (q .x) (q .y)))
+    (sign (sideOf p q a) _ _ (q .x) (p .x) (a .x) (p .x) (a .x) (q .x) h h (own′ (sideOf p q a) (q .x) (p .x) (a .x)))
+    (sign (sideOf p q b) _ _ (q .x) (p .x) (b .x) (p .x) (b .x) (q .x) k k (own′ (sideOf p q b) (q .x) (p .x) (b .x)))
 edge a b p q (left′ h k) =
     four a b p q (ltZ (p .x) (q .x))
-    (sign⁺ (o a b p) _ _ (q .x) (p .x) (a .x) (p .x) (b .x) (p .x) k h (c-p (a .x) (a .y) (b .x) (b .y) (p .x) (p .y) (q .x) (q .y)))
-    (sign⁺ (o a b q) _ _ (q .x) (p .x) (a .x) (q .x) (b .x) (q .x) k h (c-q (a .x) (a .y) (b .x) (b .y) (p .x) (p .y) (q .x) (q .y)))
-    (sign⁺ (o p q a) _ _ (q .x) (p .x) (a .x) (p .x) (a .x) (q .x) h h (own′ (o p q a) (q .x) (p .x) (a .x)))
-    (sign⁺ (o p q b) _ _ (q .x) (p .x) (b .x) (p .x) (b .x) (q .x) k k (own′ (o p q b) (q .x) (p .x) (b .x)))
+    (sign⁺ (sideOf a b p) _ _ (q .x) (p .x) (a .x) (p .x) (b .x) (p .x) k h (c-p (a .x) (a .y) (b .x) (b .y) (p .x) (p .y) (q .x) (q .y)))
+    (sign⁺ (sideOf a b q) _ _ (q .x) (p .x) (a .x) (q .x) (b .x) (q .x) k h (c-q (a .x) (a .y) (b .x) (b .y) (p .x) (p .y) (q .x) (q .y)))
+    (sign⁺ (sideOf p q a) _ _ (q .x) (p .x) (a .x) (p .x) (a .x) (q .x) h h (own′ (sideOf p q a) (q .x) (p .x) (a .x)))
+    (sign⁺ (sideOf p q b) _ _ (q .x) (p .x) (b .x) (p .x) (b .x) (q .x) k k (own′ (sideOf p q b) (q .x) (p .x) (b .x)))
 edge a b p q (below h i j k) =
     four a b p q true
-    (sign (o a b p) _ _ (pos 0) (pos 1) (a .x) (p .x) (b .x) (p .x) (sub-lt _ _ i) (sub-lt _ _ h) (tri (a .x) (a .y) (b .x) (b .y) (p .x) (p .y)))
-    (sign (o a b q) _ _ (pos 0) (pos 1) (a .x) (q .x) (b .x) (q .x) (sub-lt _ _ k) (sub-lt _ _ j) (tri (a .x) (a .y) (b .x) (b .y) (q .x) (q .y)))
-    (sign (o p q a) _ _ (pos 0) (pos 1) (a .x) (p .x) (a .x) (q .x) (sub-lt _ _ j) (sub-lt _ _ h) (tri′ (p .x) (p .y) (q .x) (q .y) (a .x) (a .y)))
-    (sign (o p q b) _ _ (pos 0) (pos 1) (b .x) (p .x) (b .x) (q .x) (sub-lt _ _ k) (sub-lt _ _ i) (tri′ (p .x) (p .y) (q .x) (q .y) (b .x) (b .y)))
+    (sign (sideOf a b p) _ _ (pos 0) (pos 1) (a .x) (p .x) (b .x) (p .x) (sub-lt _ _ i) (sub-lt _ _ h) (tri (a .x) (a .y) (b .x) (b .y) (p .x) (p .y)))
+    (sign (sideOf a b q) _ _ (pos 0) (pos 1) (a .x) (q .x) (b .x) (q .x) (sub-lt _ _ k) (sub-lt _ _ j) (tri (a .x) (a .y) (b .x) (b .y) (q .x) (q .y)))
+    (sign (sideOf p q a) _ _ (pos 0) (pos 1) (a .x) (p .x) (a .x) (q .x) (sub-lt _ _ j) (sub-lt _ _ h) (tri′ (p .x) (p .y) (q .x) (q .y) (a .x) (a .y)))
+    (sign (sideOf p q b) _ _ (pos 0) (pos 1) (b .x) (p .x) (b .x) (q .x) (sub-lt _ _ k) (sub-lt _ _ i) (tri′ (p .x) (p .y) (q .x) (q .y) (b .x) (b .y)))
 edge a b p q (above h i j k) =
     four a b p q false
-    (sign⁺ (o a b p) _ _ (pos 0) (pos 1) (a .x) (p .x) (b .x) (p .x) (lt-sub _ _ i) (lt-sub _ _ h) (tri (a .x) (a .y) (b .x) (b .y) (p .x) (p .y)))
-    (sign⁺ (o a b q) _ _ (pos 0) (pos 1) (a .x) (q .x) (b .x) (q .x) (lt-sub _ _ k) (lt-sub _ _ j) (tri (a .x) (a .y) (b .x) (b .y) (q .x) (q .y)))
-    (sign⁺ (o p q a) _ _ (pos 0) (pos 1) (a .x) (p .x) (a .x) (q .x) (lt-sub _ _ j) (lt-sub _ _ h) (tri′ (p .x) (p .y) (q .x) (q .y) (a .x) (a .y)))
-    (sign⁺ (o p q b) _ _ (pos 0) (pos 1) (b .x) (p .x) (b .x) (q .x) (lt-sub _ _ k) (lt-sub _ _ i) (tri′ (p .x) (p .y) (q .x) (q .y) (b .x) (b .y)))
+    (sign⁺ (sideOf a b p) _ _ (pos 0) (pos 1) (a .x) (p .x) (b .x) (p .x) (lt-sub _ _ i) (lt-sub _ _ h) (tri (a .x) (a .y) (b .x) (b .y) (p .x) (p .y)))
+    (sign⁺ (sideOf a b q) _ _ (pos 0) (pos 1) (a .x) (q .x) (b .x) (q .x) (lt-sub _ _ k) (lt-sub _ _ j) (tri (a .x) (a .y) (b .x) (b .y) (q .x) (q .y)))
+    (sign⁺ (sideOf p q a) _ _ (pos 0) (pos 1) (a .x) (p .x) (a .x) (q .x) (lt-sub _ _ j) (lt-sub _ _ h) (tri′ (p .x) (p .y) (q .x) (q .y) (a .x) (a .y)))
+    (sign⁺ (sideOf p q b) _ _ (pos 0) (pos 1) (b .x) (p .x) (b .x) (q .x) (lt-sub _ _ k) (lt-sub _ _ i) (tri′ (p .x) (p .y) (q .x) (q .y) (b .x) (b .y)))
 edge a b p q (before h i j k) = rw (false-le (a .x) (p .x) h, false-le (b .x) (p .x) i, false-le (a .x) (q .x) j, false-le (b .x) (q .x) k)
 edge a b p q (behind h i j k) = rw (true-le (a .x) (p .x) (lt-le _ _ h), true-le (b .x) (p .x) (lt-le _ _ i), true-le (a .x) (q .x) (lt-le _ _ j), true-le (b .x) (q .x) (lt-le _ _ k))
 
@@ -220,11 +207,6 @@ xor-same true false e = e
 xor-same false true e = sym e
 xor-same false false e = refl
 
--- whether an odd number of the first n flags are set
-unfoldable pub parity : (ℕ → Bool) → ℕ → Bool
-parity f zero = false
-parity f (suc n) = xor (parity f n) (f n)
-
 pub parity-ext : (f g : ℕ → Bool) (n : ℕ) → ((k : ℕ) → k < n → f k ≡ g k) → parity f n ≡ parity g n
 unfolding parity
 parity-ext f g zero h = refl
@@ -238,10 +220,6 @@ chain c p q (suc n) h =
     xor-swap (parity (λ k. crosses (c k) (c (suc k)) p) n) (crosses (c n) (c (suc n)) p) (parity (λ k. crosses (c k) (c (suc k)) q) n) (crosses (c n) (c (suc n)) q)
     ∙ rw (edge (c n) (c (suc n)) p q (h n (omega arith)), chain c p q n (λ k i. h k (omega arith)))
     (xor-link (over (c 0) p q) (over (c n) p q) (over (c (suc n)) p q))
-
--- the flag of edge k of a ring
-abbrev pub flag : Ring → Pt → ℕ → Bool
-flag r p k = crosses (from r k) (to r k) p
 
 -- the corners in the order of the edges: 0, 1 .. and 0 again
 abbrev walk : Ring → ℕ → Pt
