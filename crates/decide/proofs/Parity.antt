@@ -1,22 +1,22 @@
--- A place is exactly one of three: on, or by the parity of the crossing flags; scaling and shifting all do not change it. Assumes nothing.
+-- A place is at most one of three: on, or by the parity of the crossing flags; scaling and shifting all do not change what contact asks of it. Assumes nothing.
 use mathlib.Core.Path.{_≡_, refl, sym, ap, _∙_}
-use mathlib.Core.Logic.{_⊎_, inl, inr, ⊎-elim}
+use mathlib.Core.Logic.{inl, inr, ⊎-elim}
 use mathlib.Core.Bool.{Bool, true, false, cond}
-use Prim.Native.Nat.{ℕ, zero, suc, _%_, _≤_, _<_}
+use Prim.Native.Nat.{ℕ, zero, suc, _%_}
 use native.Mathlib.Omega.{arith}
 use lib.IntN.{ℤ, pos, _+ℤ_, _*ℤ_, zero-*ℤ}
 use lib.Signed.{_≤ℤ_, _<ℤ_, leZ, ltZ, ltZ-yes}
 use Rattle.whole.proofs.Difference.{all4, ring}
-use Rattle.whole.proofs.Order.{pos-mul, mul-mono, mul-mono-lt, cancel, cancel-lt, lt-le, ℕ-or}
+use Rattle.whole.proofs.Order.{pos-mul, mul-mono, mul-mono-lt, cancel, cancel-lt, lt-le}
 use Rattle.whole.proofs.Flag.{same-flag, decided, false-true}
 use Rattle.whole.proofs.Polynomial.{vars9, poly, by-ring}
-use Rattle.rules.specs.Ring.{Pt, Ring, from, to, On}
+use Rattle.rules.specs.Ring.{Pt, Ring, from, to}
 use Rattle.rules.specs.Place.{OnRing, Counted, Count, start, more, pass, Where, on, inside, outside, Parity, Place, OnOrInside}
 use Rattle.decide.specs.Side.{sideOf, side}
 use Rattle.decide.specs.Crossing.{counts, xor, crosses, flag, parity}
 use Rattle.decide.proofs.Crossing.{xor-unit, parity-ext}
 use Rattle.decide.proofs.Counted.{counted-yes, yes-counted}
-use Rattle.decide.proofs.On.{on-or-off, off-not-on, move, on-move, on-unmove}
+use Rattle.decide.proofs.On.{move, on-move, on-unmove}
 
 -- ---- the count and the flags
 abbrev pub bit : Bool → ℕ
@@ -58,27 +58,7 @@ parity-place r p f = let c = tally-counts r p (r .size) in record { off = f; cou
 pub place-parity : (r : Ring) (p : Pt) (rest : ℕ) → Parity r p rest → rest ≡ bit (parity (flag r p) (r .size))
 place-parity r p rest h = sym (h .parity) ∙ count-parity r p (r .size) (h .count) (h .counts)
 
--- ---- exactly one of three
-on-some : (r : Ring) (p : Pt) (n : ℕ) → n ≤ r .size → OnRing r p ⊎ ((k : ℕ) → k < n → On p (from r k) (to r k) → ⊥)
-on-some r p zero h = inr (λ k l. absurd (omega arith))
-on-some r p (suc n) h =
-    ⊎-elim inl
-    (λ f. ⊎-elim (λ e. inl (record { edge = n; below = h; on = e })) (λ a. inr (λ k l. last f (off-not-on p (from r n) (to r n) a) k l)) (on-or-off p (from r n) (to r n)))
-    (on-some r p n (omega arith))
-  where
-    last : ((k : ℕ) → k < n → On p (from r k) (to r k) → ⊥) → (On p (from r n) (to r n) → ⊥) → (k : ℕ) → k < suc n → On p (from r k) (to r k) → ⊥
-    last f g k l = ⊎-elim (λ (q : n ≤ k). let e : k ≡ n = omega arith in rw e g) (λ (q : k < n). f k q) (ℕ-or n k)
-
-pub on-ring-or-off : (r : Ring) (p : Pt) → OnRing r p ⊎ (OnRing r p → ⊥)
-on-ring-or-off r p = ⊎-elim inl (λ f. inr (λ h. f (h .edge) (h .below) (h .on))) (on-some r p (r .size) (omega arith))
-
-pub some-place : (r : Ring) (p : Pt) → (w : Where) × Place r p w
-some-place r p = ⊎-elim (λ h. (on, h)) (λ f. go f (parity (flag r p) (r .size)) (parity-place r p f)) (on-ring-or-off r p)
-  where
-    go : (OnRing r p → ⊥) → (t : Bool) → Parity r p (bit t) → (w : Where) × Place r p w
-    go f true h = (inside, h)
-    go f false h = (outside, h)
-
+-- ---- at most one of three
 -- the two remainders differ
 pub zero-one : {n : ℕ} → 0 ≡ n → 1 ≡ n → ⊥
 zero-one e f = omega arith
