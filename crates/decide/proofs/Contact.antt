@@ -26,7 +26,12 @@ module _ (r : Run) (k : Piece) (c : ℤ) (l : pos 0 <ℤ c) (t : Frac) where
   point-scaled = pt-eq _ _ (along-scaled c (t .den) (t .num) (r .start .x) (r .speed .x)) (along-scaled c (t .den) (t .num) (r .start .y) (r .speed .y))
 
   ring-scaled : moved c origin l (ringAt k t) ≡ ringAt k (scaled c l t)
-  ring-scaled = λ j. record { size = ringAt k t .size; at = λ i. pt-eq (move c origin (ringAt k t .at i)) (ringAt k (scaled c l t) .at i) (along-scaled c (t .den) (t .num) (corners.ring (k .corners) .at i .x) (k .speed .x)) (along-scaled c (t .den) (t .num) (corners.ring (k .corners) .at i .y) (k .speed .y)) j }
+  ring-scaled = λ j. record {
+    size = ringAt k t .size;
+    at = λ i. pt-eq (move c origin (ringAt k t .at i)) (ringAt k (scaled c l t) .at i)
+        (along-scaled c (t .den) (t .num) (corners.ring (k .corners) .at i .x) (k .speed .x))
+        (along-scaled c (t .den) (t .num) (corners.ring (k .corners) .at i .y) (k .speed .y)) j;
+  }
 
   met-scaled : OnOrInside (ringAt k t) (pointAt r t) → OnOrInside (ringAt k (scaled c l t)) (pointAt r (scaled c l t))
   met-scaled h =

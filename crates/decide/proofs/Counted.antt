@@ -54,10 +54,14 @@ wide a p b l r = lt-sub _ _ (le-lt-trans _ _ _ l r)
 pub counted-yes : (p a b : Pt) → Straddles p a b → Above p a b → crosses a b p ≡ true
 counted-yes p a b (rightward l r) h =
     rw (true-le (a .x) (p .x) l, false-le (b .x) (p .x) r)
-    (true-lt (sideOf a b p) (pos 0) (against (h .at .m *ℤ h .m) (sideOf a b p) (b .x -ℤ a .x) _ (pos-mul _ _ (h .at .some) (h .some)) (lower (h .at .m) (h .m *ℤ p .y) (h .y) (h .at .some) (h .above)) (height p a b h) (wide (a .x) (p .x) (b .x) l r)))
+    (true-lt (sideOf a b p) (pos 0)
+    (against (h .at .m *ℤ h .m) (sideOf a b p) (b .x -ℤ a .x) _ (pos-mul _ _ (h .at .some) (h .some))
+    (lower (h .at .m) (h .m *ℤ p .y) (h .y) (h .at .some) (h .above)) (height p a b h) (wide (a .x) (p .x) (b .x) l r)))
 counted-yes p a b (leftward l r) h =
     rw (false-le (a .x) (p .x) r, true-le (b .x) (p .x) l)
-    (true-lt (pos 0) (sideOf a b p) (against⁻ (h .at .m *ℤ h .m) (sideOf a b p) (b .x -ℤ a .x) _ (pos-mul _ _ (h .at .some) (h .some)) (lower (h .at .m) (h .m *ℤ p .y) (h .y) (h .at .some) (h .above)) (height p a b h) (sub-lt _ _ (le-lt-trans _ _ _ l r))))
+    (true-lt (pos 0) (sideOf a b p)
+    (against⁻ (h .at .m *ℤ h .m) (sideOf a b p) (b .x -ℤ a .x) _ (pos-mul _ _ (h .at .some) (h .some))
+    (lower (h .at .m) (h .m *ℤ p .y) (h .y) (h .at .some) (h .above)) (height p a b h) (sub-lt _ _ (le-lt-trans _ _ _ l r))))
 
 -- ---- and back: the point of the edge at the point's x
 gone : (u v w : ℤ) → u -ℤ v ≡ w → w <ℤ pos 0 → u <ℤ v
@@ -68,7 +72,15 @@ above-right p a b l r s = record {
   m = b .x -ℤ a .x;
   y = ((b .x -ℤ a .x) -ℤ (p .x -ℤ a .x)) *ℤ a .y +ℤ (p .x -ℤ a .x) *ℤ b .y;
   some = wide (a .x) (p .x) (b .x) l r;
-  at = record { m = b .x -ℤ a .x; i = p .x -ℤ a .x; some = wide (a .x) (p .x) (b .x) l r; low = le-sub _ _ l; high = sub-mono (a .x) (p .x) (b .x) (lt-le _ _ r); x = ap (λ z. (b .x -ℤ a .x) *ℤ z) (mean-at (a .x) (b .x) (p .x)) ∙ mean-times (b .x -ℤ a .x) (p .x -ℤ a .x) (a .x) (b .x); y = mean-times (b .x -ℤ a .x) (p .x -ℤ a .x) (a .y) (b .y) };
+  at = record {
+    m = b .x -ℤ a .x;
+    i = p .x -ℤ a .x;
+    some = wide (a .x) (p .x) (b .x) l r;
+    low = le-sub _ _ l;
+    high = sub-mono (a .x) (p .x) (b .x) (lt-le _ _ r);
+    x = ap (λ z. (b .x -ℤ a .x) *ℤ z) (mean-at (a .x) (b .x) (p .x)) ∙ mean-times (b .x -ℤ a .x) (p .x -ℤ a .x) (a .x) (b .x);
+    y = mean-times (b .x -ℤ a .x) (p .x -ℤ a .x) (a .y) (b .y);
+  };
   above = gone _ _ _ (gap-at (a .x) (a .y) (b .x) (b .y) (p .x) (p .y)) s;
 }
 

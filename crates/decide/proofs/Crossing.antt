@@ -213,7 +213,8 @@ parity-ext f g zero h = refl
 parity-ext f g (suc n) h = rw (parity-ext f g n (λ k i. h k (omega arith)), h n (omega arith))
 
 -- a chain of corners c 0, c 1 ..: the flags of its inner corners cancel
-chain : (c : ℕ → Pt) (p q : Pt) (n : ℕ) → ((k : ℕ) → k < n → Apart (c k) (c (suc k)) p q) → xor (parity (λ k. crosses (c k) (c (suc k)) p) n) (parity (λ k. crosses (c k) (c (suc k)) q) n) ≡ xor (over (c 0) p q) (over (c n) p q)
+chain : (c : ℕ → Pt) (p q : Pt) (n : ℕ) → ((k : ℕ) → k < n → Apart (c k) (c (suc k)) p q)
+    → xor (parity (λ k. crosses (c k) (c (suc k)) p) n) (parity (λ k. crosses (c k) (c (suc k)) q) n) ≡ xor (over (c 0) p q) (over (c n) p q)
 unfolding parity
 chain c p q zero h = xor-self (over (c 0) p q)
 chain c p q (suc n) h =
@@ -238,7 +239,9 @@ walk-round r (suc n) e = ap (r .at) (rw (← e) (next-last n))
 pub same-parity : (r : Ring) (p q : Pt) → ((k : ℕ) → k < r .size → Apart (from r k) (to r k) p q) → parity (flag r p) (r .size) ≡ parity (flag r q) (r .size)
 same-parity r p q h =
     as-chain p
-    ∙ xor-same _ _ (chain (walk r) p q (r .size) (λ k l. subst (λ (v : Pt). Apart v (to r k) p q) (sym (walk-at r k l)) (h k l)) ∙ ap (λ (v : Pt). xor (over (r .at 0) p q) (over v p q)) (walk-round r (r .size) refl) ∙ sym (xor-self (over (r .at 0) p q)))
+    ∙ xor-same _ _
+    (chain (walk r) p q (r .size) (λ k l. subst (λ (v : Pt). Apart v (to r k) p q) (sym (walk-at r k l)) (h k l))
+    ∙ ap (λ (v : Pt). xor (over (r .at 0) p q) (over v p q)) (walk-round r (r .size) refl) ∙ sym (xor-self (over (r .at 0) p q)))
     ∙ sym (as-chain q)
   where
     as-chain : (p : Pt) → parity (flag r p) (r .size) ≡ parity (λ k. crosses (walk r k) (walk r (suc k)) p) (r .size)

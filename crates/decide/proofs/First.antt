@@ -72,11 +72,14 @@ OnFirst r p w n t = (k : ℕ) × (k < n) × OnAt p w (from r k) (to r k) t
 pub first-touches : (r : Ring) (p w : Pt) (s : Span) → Proper s → Early s → (n : ℕ) → FirstAt s (OnFirst r p w n) (touches r p w s n)
 unfolding touches
 first-touches r p w s q early zero = never refl (λ t i h. let l = h .1 in absurd (omega arith))
-first-touches r p w s q early (suc n) = through out into (joined (touches r p w s n) (touch p w s (from r n) (to r n)) (first-touches r p w s q early n) (first-touch p w s q early (from r n) (to r n)))
+first-touches r p w s q early (suc n) = through out into
+    (joined (touches r p w s n) (touch p w s (from r n) (to r n)) (first-touches r p w s q early n) (first-touch p w s q early (from r n) (to r n)))
   where
     out : (t : Frac) → OnFirst r p w n t ⊎ OnAt p w (from r n) (to r n) t → OnFirst r p w (suc n) t
     out t (inl h) = let l = h .1 in (h .0, omega arith, h .2)
     out t (inr h) = (n, omega arith, h)
 
     into : (t : Frac) → OnFirst r p w (suc n) t → OnFirst r p w n t ⊎ OnAt p w (from r n) (to r n) t
-    into t h = let l = h .1 in ⊎-elim (λ (g : n ≤ h .0). let e : h .0 ≡ n = omega arith in inr (subst (λ (k : ℕ). OnAt p w (from r k) (to r k) t) e (h .2))) (λ (g : h .0 < n). inl (h .0, g, h .2)) (ℕ-or n (h .0))
+    into t h = let l = h .1 in
+        ⊎-elim (λ (g : n ≤ h .0). let e : h .0 ≡ n = omega arith in inr (subst (λ (k : ℕ). OnAt p w (from r k) (to r k) t) e (h .2)))
+        (λ (g : h .0 < n). inl (h .0, g, h .2)) (ℕ-or n (h .0))

@@ -70,7 +70,11 @@ module _ (p w : Pt) (s t : Frac) (l : s ≼ t) where
     look zero h = inl (λ k q. absurd (omega arith))
     look (suc n) h =
         ⊎-elim
-        (λ f. ⊎-elim (λ q. inl (λ k g. ⊎-elim (λ (e : n ≤ k). let z : n ≡ k = omega arith in subst (λ (i : ℕ). Apart (from wide i) (to wide i) start stop) z q) (λ (e : k < n). f k e) (ℕ-or n k))) (λ c. let x = touched (from r n) (to r n) c in inr (x .0, x .1, x .2, (n, h, x .3))) (decide (from wide n) (to wide n) start stop))
+        (λ f. ⊎-elim
+        (λ q. inl
+        (λ k g. ⊎-elim (λ (e : n ≤ k). let z : n ≡ k = omega arith in subst (λ (i : ℕ). Apart (from wide i) (to wide i) start stop) z q)
+        (λ (e : k < n). f k e) (ℕ-or n k))) (λ c. let x = touched (from r n) (to r n) c in inr (x .0, x .1, x .2, (n, h, x .3)))
+        (decide (from wide n) (to wide n) start stop))
         inr
         (look n (omega arith))
 
@@ -78,7 +82,11 @@ module _ (p w : Pt) (s t : Frac) (l : s ≼ t) where
     swapped = vars3 _ λ ρ. simp (poly, num-val ρ) (by-ring _ _ _ tt)
 
     same-ring : wide ≡ moved (s .den) origin (s .some) (over (t .den) r)
-    same-ring = λ j. record { size = r .size; at = λ i. pt-eq (move (t .den) origin (times (s .den) (r .at i))) (move (s .den) origin (times (t .den) (r .at i))) (swapped (s .den) (t .den) (r .at i .x)) (swapped (s .den) (t .den) (r .at i .y)) j }
+    same-ring = λ j. record {
+      size = r .size;
+      at = λ i. pt-eq (move (t .den) origin (times (s .den) (r .at i))) (move (s .den) origin (times (t .den) (r .at i)))
+          (swapped (s .den) (t .den) (r .at i .x)) (swapped (s .den) (t .den) (r .at i .y)) j;
+    }
 
     pub parity-or-touch : (parity (flag (over (s .den) r) (at p w s)) (r .size) ≡ parity (flag (over (t .den) r) (at p w t)) (r .size)) ⊎ ((u : Frac) × (s ≼ u) × (u ≼ t) × OnFirst r p w (r .size) u)
     parity-or-touch =

@@ -34,7 +34,8 @@ not-counted r p n e c = false-true (sym e ∙ counted-yes p (from r n) (to r n) 
 pub count-parity : (r : Ring) (p : Pt) (n k : ℕ) → Count r p n k → k % 2 ≡ bit (parity (flag r p) n)
 unfolding parity
 count-parity r p zero zero start = refl
-count-parity r p (suc n) (suc k) (more c h) = flipped k (parity (flag r p) n) (count-parity r p n k h) ∙ ap (λ t. bit (xor (parity (flag r p) n) t)) (sym (counted-yes p (from r n) (to r n) (c .0) (c .1)))
+count-parity r p (suc n) (suc k) (more c h) = flipped k (parity (flag r p) n) (count-parity r p n k h)
+    ∙ ap (λ t. bit (xor (parity (flag r p) n) t)) (sym (counted-yes p (from r n) (to r n) (c .0) (c .1)))
 count-parity r p (suc n) k (pass f h) =
     ⊎-elim (λ e. absurd (f (yes-counted p (from r n) (to r n) e))) (λ e. count-parity r p n k h ∙ ap bit (sym (ap (λ t. xor (parity (flag r p) n) t) e ∙ xor-unit (parity (flag r p) n))))
     (decided (flag r p n))

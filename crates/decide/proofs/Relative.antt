@@ -33,7 +33,12 @@ module _ (r : Run) (k : Piece) (t : Frac) where
 
   ring-relative : moved (pos 1) (drift k t) one (over (t .den) (ring (k .corners))) ≡ ringAt k t
   unfolding drift
-  ring-relative = λ j. record { size = ringAt k t .size; at = λ i. pt-eq (move (pos 1) (drift k t) (times (t .den) (ring (k .corners) .at i))) (ringAt k t .at i) (corner-drift (t .den) (t .num) (ring (k .corners) .at i .x) (k .speed .x)) (corner-drift (t .den) (t .num) (ring (k .corners) .at i .y) (k .speed .y)) j }
+  ring-relative = λ j. record {
+    size = ringAt k t .size;
+    at = λ i. pt-eq (move (pos 1) (drift k t) (times (t .den) (ring (k .corners) .at i))) (ringAt k t .at i)
+        (corner-drift (t .den) (t .num) (ring (k .corners) .at i .x) (k .speed .x))
+        (corner-drift (t .den) (t .num) (ring (k .corners) .at i .y) (k .speed .y)) j;
+  }
 
   abbrev still : Ring
   still = over (t .den) (ring (k .corners))

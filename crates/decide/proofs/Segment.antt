@@ -6,7 +6,8 @@ use lib.IntN.{ℤ, pos, negℤ, _+ℤ_, _-ℤ_, _*ℤ_, +ℤ-invr}
 use lib.Signed.{_≤ℤ_, _<ℤ_}
 use Rattle.whole.proofs.Difference.{all2, all3, all4, ring}
 use Rattle.whole.proofs.Polynomial.{vars3, vars4, vars6, vars7, vars8, vars10, poly, num-val, by-ring}
-use Rattle.whole.proofs.Order.{np-mul, pos-neg-mul, neg-not, pos-not, turn-le, turn-ge, turn-gt, le-sub, lt-sub, sub-mono, sub-lt, sub-le, le-trans, le-lt-trans, lt-le, le-or-lt, clash, Tri, less, same, more, tri}
+use Rattle.whole.proofs.Order.{np-mul, pos-neg-mul, neg-not, pos-not, turn-le, turn-ge, turn-gt, le-sub, lt-sub, sub-mono, sub-lt}
+use Rattle.whole.proofs.Order.{sub-le, le-trans, le-lt-trans, lt-le, le-or-lt, clash, Tri, less, same, more, tri}
 use Rattle.rules.specs.Ring.{Pt}
 use Rattle.decide.specs.Side.{side, sideOf}
 
@@ -83,7 +84,9 @@ mix⁺ n j u v hn h k hu hv = back n j u v (mix n j (negℤ u) (negℤ v) hn h k
     back : (n j u v : ℤ) → ((n -ℤ j) *ℤ negℤ u +ℤ j *ℤ negℤ v) <ℤ pos 0 → pos 0 <ℤ ((n -ℤ j) *ℤ u +ℤ j *ℤ v)
     back n j u v l = swap _ _ (out n j u v) l
 
-lin₁ : (ax ay bx by px py qx qy n j : ℤ) → (n -ℤ j) *ℤ side ax ay bx by px py +ℤ j *ℤ side ax ay bx by qx qy ≡ (bx -ℤ ax) *ℤ (((n -ℤ j) *ℤ py +ℤ j *ℤ qy) -ℤ n *ℤ ay) -ℤ (by -ℤ ay) *ℤ (((n -ℤ j) *ℤ px +ℤ j *ℤ qx) -ℤ n *ℤ ax)
+lin₁ : (ax ay bx by px py qx qy n j : ℤ)
+    → (n -ℤ j) *ℤ side ax ay bx by px py +ℤ j *ℤ side ax ay bx by qx qy ≡ (bx -ℤ ax) *ℤ (((n -ℤ j) *ℤ py +ℤ j *ℤ qy) -ℤ n *ℤ ay) -ℤ (by -ℤ ay) *ℤ
+    (((n -ℤ j) *ℤ px +ℤ j *ℤ qx) -ℤ n *ℤ ax)
 lin₁ = vars10 _ λ ρ. simp poly (by-ring _ _ _ tt)
 
 lin₂ : (ax ay bx by n i : ℤ) → (bx -ℤ ax) *ℤ (((n -ℤ i) *ℤ ay +ℤ i *ℤ by) -ℤ n *ℤ ay) -ℤ (by -ℤ ay) *ℤ (((n -ℤ i) *ℤ ax +ℤ i *ℤ bx) -ℤ n *ℤ ax) ≡ pos 0
@@ -98,7 +101,9 @@ flipped a b p q c = record { n = c .n; i = c .j; j = c .i; some = c .some; i-low
 -- two numbers below two numbers have no mean in common with them
 means : (n i j u v s t : ℤ) → pos 0 <ℤ n → pos 0 ≤ℤ i → i ≤ℤ n → pos 0 ≤ℤ j → j ≤ℤ n → (n -ℤ i) *ℤ u +ℤ i *ℤ v ≡ (n -ℤ j) *ℤ s +ℤ j *ℤ t → s <ℤ u → s <ℤ v → t <ℤ u → t <ℤ v → ⊥
 means n i j u v s t hn i₀ i₁ j₀ j₁ e su sv tu tv =
-    neg-not _ ((rw e at (zero n i j u v s t)) ∙ +ℤ-invr (n *ℤ ((n -ℤ j) *ℤ s +ℤ j *ℤ t))) (mix n i _ _ hn i₀ i₁ (mix n j (s -ℤ u) (t -ℤ u) hn j₀ j₁ (sub-lt _ _ su) (sub-lt _ _ tu)) (mix n j (s -ℤ v) (t -ℤ v) hn j₀ j₁ (sub-lt _ _ sv) (sub-lt _ _ tv)))
+    neg-not _ ((rw e at (zero n i j u v s t)) ∙ +ℤ-invr (n *ℤ ((n -ℤ j) *ℤ s +ℤ j *ℤ t)))
+    (mix n i _ _ hn i₀ i₁ (mix n j (s -ℤ u) (t -ℤ u) hn j₀ j₁ (sub-lt _ _ su) (sub-lt _ _ tu))
+    (mix n j (s -ℤ v) (t -ℤ v) hn j₀ j₁ (sub-lt _ _ sv) (sub-lt _ _ tv)))
   where
     zero : (n i j u v s t : ℤ) → (n -ℤ i) *ℤ ((n -ℤ j) *ℤ (s -ℤ u) +ℤ j *ℤ (t -ℤ u)) +ℤ i *ℤ ((n -ℤ j) *ℤ (s -ℤ v) +ℤ j *ℤ (t -ℤ v)) ≡ n *ℤ ((n -ℤ j) *ℤ s +ℤ j *ℤ t) -ℤ n *ℤ ((n -ℤ i) *ℤ u +ℤ i *ℤ v)
     zero = vars7 _ λ ρ. simp poly (by-ring _ _ _ tt)
@@ -190,7 +195,8 @@ at-up a b p q z d k l = ⊎-elim (λ h. on-up a b p q z h k l) (λ h. absurd (cl
 at-down : (a b p q : Pt) → sideOf a b p ≡ pos 0 → Off (a .x) (b .x) → b .x ≤ℤ p .x → p .x ≤ℤ a .x → Common a b p q
 at-down a b p q z d k l = ⊎-elim (λ h. absurd (clash _ _ h (le-trans _ _ _ k l))) (λ h. on-down a b p q z h k l) d
 
-coll-x : (a b p q : Pt) → sideOf a b p ≡ pos 0 → sideOf a b q ≡ pos 0 → sideOf p q a ≡ pos 0 → Off (a .x) (b .x) → Loc (a .x) (b .x) (p .x) → Loc (a .x) (b .x) (q .x) → Sep (a .x) (b .x) (p .x) (q .x) ⊎ Common a b p q
+coll-x : (a b p q : Pt) → sideOf a b p ≡ pos 0 → sideOf a b q ≡ pos 0 → sideOf p q a ≡ pos 0 → Off (a .x) (b .x) → Loc (a .x) (b .x) (p .x)
+    → Loc (a .x) (b .x) (q .x) → Sep (a .x) (b .x) (p .x) (q .x) ⊎ Common a b p q
 coll-x a b p q z1 z2 z3 d (up k l) m = inr (at-up a b p q z1 d k l)
 coll-x a b p q z1 z2 z3 d (down k l) m = inr (at-down a b p q z1 d k l)
 coll-x a b p q z1 z2 z3 d (low h i) (low j k) = inl (ahead h i j k)
@@ -212,7 +218,8 @@ record Flat (u v s t : ℤ) : Type 0 where
   us : u ≡ s
 
 -- all on one line: the x ranges are separate, or there is a common point, or all x are one
-flat : (a b p q : Pt) → sideOf a b p ≡ pos 0 → sideOf a b q ≡ pos 0 → sideOf p q a ≡ pos 0 → sideOf p q b ≡ pos 0 → (Sep (a .x) (b .x) (p .x) (q .x) ⊎ Common a b p q) ⊎ Flat (a .x) (b .x) (p .x) (q .x)
+flat : (a b p q : Pt) → sideOf a b p ≡ pos 0 → sideOf a b q ≡ pos 0 → sideOf p q a ≡ pos 0 → sideOf p q b ≡ pos 0
+    → (Sep (a .x) (b .x) (p .x) (q .x) ⊎ Common a b p q) ⊎ Flat (a .x) (b .x) (p .x) (q .x)
 flat a b p q z1 z2 z3 z4 = first (tri (a .x) (b .x))
   where
     out : Off (a .x) (b .x) → Sep (a .x) (b .x) (p .x) (q .x) ⊎ Common a b p q
@@ -262,7 +269,9 @@ by-y a b p q (ahead h i j k) = below h i j k
 by-y a b p q (after h i j k) = above h i j k
 
 coll : (a b p q : Pt) → sideOf a b p ≡ pos 0 → sideOf a b q ≡ pos 0 → sideOf p q a ≡ pos 0 → sideOf p q b ≡ pos 0 → Apart a b p q ⊎ Common a b p q
-coll a b p q z1 z2 z3 z4 = ⊎-elim (λ h. ⊎-elim (λ s. inl (by-x a b p q s)) inr h) (λ f. ⊎-elim (λ h. ⊎-elim (λ s. inl (by-y a b p q s)) (λ c. inr (tr-common a b p q c)) h) (λ g. inr (one f g)) (flat (tr a) (tr b) (tr p) (tr q) (tr-zero a b p z1) (tr-zero a b q z2) (tr-zero p q a z3) (tr-zero p q b z4))) (flat a b p q z1 z2 z3 z4)
+coll a b p q z1 z2 z3 z4 = ⊎-elim (λ h. ⊎-elim (λ s. inl (by-x a b p q s)) inr h)
+    (λ f. ⊎-elim (λ h. ⊎-elim (λ s. inl (by-y a b p q s)) (λ c. inr (tr-common a b p q c)) h) (λ g. inr (one f g))
+    (flat (tr a) (tr b) (tr p) (tr q) (tr-zero a b p z1) (tr-zero a b q z2) (tr-zero p q a z3) (tr-zero p q b z4))) (flat a b p q z1 z2 z3 z4)
   where
     one : Flat (a .x) (b .x) (p .x) (q .x) → Flat (a .y) (b .y) (p .y) (q .y) → Common a b p q
     one f g = record {
@@ -338,10 +347,14 @@ fit = all4 _ λ a a′ b b′ c c′ d d′. simp ring (omega arith)
 neg-fit : (u v : ℤ) → pos 0 ≤ℤ v → negℤ u ≤ℤ (v -ℤ u)
 neg-fit = all2 _ λ a a′ b b′. simp ring (omega arith)
 
-meet-x : (ax ay bx by px py qx qy : ℤ) → ((side ax ay bx by qx qy -ℤ side ax ay bx by px py) -ℤ side px py qx qy ax ay) *ℤ ax +ℤ side px py qx qy ax ay *ℤ bx ≡ ((side ax ay bx by qx qy -ℤ side ax ay bx by px py) -ℤ negℤ (side ax ay bx by px py)) *ℤ px +ℤ negℤ (side ax ay bx by px py) *ℤ qx
+meet-x : (ax ay bx by px py qx qy : ℤ)
+    → ((side ax ay bx by qx qy -ℤ side ax ay bx by px py) -ℤ side px py qx qy ax ay) *ℤ ax +ℤ side px py qx qy ax ay *ℤ bx ≡
+    ((side ax ay bx by qx qy -ℤ side ax ay bx by px py) -ℤ negℤ (side ax ay bx by px py)) *ℤ px +ℤ negℤ (side ax ay bx by px py) *ℤ qx
 meet-x = vars8 _ λ ρ. simp poly (by-ring _ _ _ tt)
 
-meet-y : (ax ay bx by px py qx qy : ℤ) → ((side ax ay bx by qx qy -ℤ side ax ay bx by px py) -ℤ side px py qx qy ax ay) *ℤ ay +ℤ side px py qx qy ax ay *ℤ by ≡ ((side ax ay bx by qx qy -ℤ side ax ay bx by px py) -ℤ negℤ (side ax ay bx by px py)) *ℤ py +ℤ negℤ (side ax ay bx by px py) *ℤ qy
+meet-y : (ax ay bx by px py qx qy : ℤ)
+    → ((side ax ay bx by qx qy -ℤ side ax ay bx by px py) -ℤ side px py qx qy ax ay) *ℤ ay +ℤ side px py qx qy ax ay *ℤ by ≡
+    ((side ax ay bx by qx qy -ℤ side ax ay bx by px py) -ℤ negℤ (side ax ay bx by px py)) *ℤ py +ℤ negℤ (side ax ay bx by px py) *ℤ qy
 meet-y = vars8 _ λ ρ. simp poly (by-ring _ _ _ tt)
 
 meet : (a b p q : Pt) → Opp (sideOf a b p) (sideOf a b q) → Opp (sideOf p q a) (sideOf p q b) → sideOf a b p <ℤ sideOf a b q → Common a b p q

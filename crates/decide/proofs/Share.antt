@@ -22,7 +22,8 @@ widen = vars6 _ λ ρ. simp poly (by-ring _ _ _ tt)
 widen′ : (m n j k c d : ℤ) → ((m *ℤ n -ℤ m *ℤ j) *ℤ c +ℤ (m *ℤ j) *ℤ d) *ℤ k ≡ m *ℤ ((n -ℤ j) *ℤ (k *ℤ c) +ℤ j *ℤ (k *ℤ d))
 widen′ m n j k c d = rw (*ℤ-comm m n) (widen n m j k c d)
 
-joined : (k m n i j p a b c d : ℤ) → pos 0 <ℤ k → m *ℤ p ≡ (m -ℤ i) *ℤ (k *ℤ a) +ℤ i *ℤ (k *ℤ b) → n *ℤ p ≡ (n -ℤ j) *ℤ (k *ℤ c) +ℤ j *ℤ (k *ℤ d) → (m *ℤ n -ℤ n *ℤ i) *ℤ a +ℤ (n *ℤ i) *ℤ b ≡ (m *ℤ n -ℤ m *ℤ j) *ℤ c +ℤ (m *ℤ j) *ℤ d
+joined : (k m n i j p a b c d : ℤ) → pos 0 <ℤ k → m *ℤ p ≡ (m -ℤ i) *ℤ (k *ℤ a) +ℤ i *ℤ (k *ℤ b) → n *ℤ p ≡ (n -ℤ j) *ℤ (k *ℤ c) +ℤ j *ℤ (k *ℤ d)
+    → (m *ℤ n -ℤ n *ℤ i) *ℤ a +ℤ (n *ℤ i) *ℤ b ≡ (m *ℤ n -ℤ m *ℤ j) *ℤ c +ℤ (m *ℤ j) *ℤ d
 joined k m n i j p a b c d h e f =
     cancel-eq _ _ k h
     (widen m n i k a b ∙ ap (λ z. n *ℤ z) (sym e) ∙ mul-swap n m p ∙ ap (λ z. m *ℤ z) f ∙ sym (widen′ m n j k c d))
@@ -98,7 +99,15 @@ fold-by a b c p h k n = record { m = pos 1; p = p; some = record { lt = tt }; fi
 
 -- the ends of an edge are on it
 pub on-start : (a b : Pt) → On a a b
-on-start a b = record { m = pos 1; i = pos 0; some = record { lt = tt }; low = record { le = tt }; high = record { le = tt }; x = sym (mean-none (pos 1) (a .x) (b .x)); y = sym (mean-none (pos 1) (a .y) (b .y)) }
+on-start a b = record {
+  m = pos 1;
+  i = pos 0;
+  some = record { lt = tt };
+  low = record { le = tt };
+  high = record { le = tt };
+  x = sym (mean-none (pos 1) (a .x) (b .x));
+  y = sym (mean-none (pos 1) (a .y) (b .y));
+}
 
 pub on-end : (a b : Pt) → On b a b
 on-end a b = on-turn b b a (on-start b a)

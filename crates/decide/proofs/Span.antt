@@ -129,7 +129,8 @@ clips s p α β =
     (λ e. by-flag (λ u. Clips s u (Holds α β)) (ltZ β (pos 0)) _ _
     (λ f. turned (lowers s p α (negℤ β) (turn-lt β (lt-true β (pos 0) f))) (λ t. fall α β (t .num) (t .den)) (λ t. fall⁻¹ α β (t .num) (t .den)))
     (λ f. let z = antisym (pos 0) β (lt-false β (pos 0) f) (lt-false (pos 0) β e) in
-    by-flag (λ u. Clips s u (Holds α β)) (ltZ α (pos 0)) _ _ (λ g. subst (λ (b : ℤ). Clips s (none s) (Holds α b)) z (nones s p α (lt-true α (pos 0) g))) (λ g. subst (λ (b : ℤ). Clips s s (Holds α b)) z (stays s p α (lt-false α (pos 0) g)))))
+    by-flag (λ u. Clips s u (Holds α β)) (ltZ α (pos 0)) _ _ (λ g. subst (λ (b : ℤ). Clips s (none s) (Holds α b)) z (nones s p α (lt-true α (pos 0) g)))
+    (λ g. subst (λ (b : ℤ). Clips s s (Holds α b)) z (stays s p α (lt-false α (pos 0) g)))))
 
 -- two in a row
 pub both : {s u v : Span} {P Q : Frac → Type 0} → Clips s u P → Clips u v Q → Clips s v (λ t. P t × Q t)

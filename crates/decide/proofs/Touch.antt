@@ -28,7 +28,9 @@ abbrev pub OnAt : Pt → Pt → Pt → Pt → Frac → Type 0
 OnAt p w a b t = On (at p w t) (times (t .den) a) (times (t .den) b)
 
 -- ---- the six inequalities
-line : (d n ax ay bx by px py wx wy : ℤ) → side (d *ℤ ax) (d *ℤ ay) (d *ℤ bx) (d *ℤ by) (d *ℤ px +ℤ n *ℤ wx) (d *ℤ py +ℤ n *ℤ wy) ≡ (side ax ay bx by px py *ℤ d +ℤ ((bx -ℤ ax) *ℤ wy -ℤ (by -ℤ ay) *ℤ wx) *ℤ n) *ℤ d
+line : (d n ax ay bx by px py wx wy : ℤ)
+    → side (d *ℤ ax) (d *ℤ ay) (d *ℤ bx) (d *ℤ by) (d *ℤ px +ℤ n *ℤ wx) (d *ℤ py +ℤ n *ℤ wy) ≡
+    (side ax ay bx by px py *ℤ d +ℤ ((bx -ℤ ax) *ℤ wy -ℤ (by -ℤ ay) *ℤ wx) *ℤ n) *ℤ d
 line = vars10 _ λ ρ. simp poly (by-ring _ _ _ tt)
 
 le-times : (d a b : ℤ) → pos 0 <ℤ d → leZ (d *ℤ a) (d *ℤ b) ≡ leZ a b
@@ -72,14 +74,19 @@ np-factor z d l h = cancel z (pos 0) d l (rw (zero-*ℤ d) h)
 -- ---- an edge
 module _ (p w a b : Pt) where
   abbrev Six : Frac → Type 0
-  Six t = ((Holds (sideOf a b p) (swing a b w) t × Holds (negℤ (sideOf a b p)) (negℤ (swing a b w)) t) × (Holds (p .x -ℤ least (a .x) (b .x)) (w .x) t × Holds (most (a .x) (b .x) -ℤ p .x) (negℤ (w .x)) t)) × (Holds (p .y -ℤ least (a .y) (b .y)) (w .y) t × Holds (most (a .y) (b .y) -ℤ p .y) (negℤ (w .y)) t)
+  Six t = ((Holds (sideOf a b p) (swing a b w) t × Holds (negℤ (sideOf a b p)) (negℤ (swing a b w)) t) ×
+      (Holds (p .x -ℤ least (a .x) (b .x)) (w .x) t × Holds (most (a .x) (b .x) -ℤ p .x) (negℤ (w .x)) t)) ×
+      (Holds (p .y -ℤ least (a .y) (b .y)) (w .y) t × Holds (most (a .y) (b .y) -ℤ p .y) (negℤ (w .y)) t)
 
   side-at : (t : Frac) → sideOf (times (t .den) a) (times (t .den) b) (at p w t) ≡ (sideOf a b p *ℤ t .den +ℤ swing a b w *ℤ t .num) *ℤ t .den
   side-at t = line (t .den) (t .num) (a .x) (a .y) (b .x) (b .y) (p .x) (p .y) (w .x) (w .y)
 
   six-boxed : (t : Frac) → Six t → Boxed (at p w t) (times (t .den) a) (times (t .den) b)
   six-boxed t h = record {
-    right = rw (side-at t) (pn-mul (sideOf a b p *ℤ t .den +ℤ swing a b w *ℤ t .num) (t .den) (diff-le _ (pos 0) (sideOf a b p *ℤ t .den +ℤ swing a b w *ℤ t .num) (turn-side (sideOf a b p) (swing a b w) (t .den) (t .num)) (h .0 .0 .1)) (lt-le _ _ (t .some)));
+    right = rw (side-at t)
+        (pn-mul (sideOf a b p *ℤ t .den +ℤ swing a b w *ℤ t .num) (t .den)
+        (diff-le _ (pos 0) (sideOf a b p *ℤ t .den +ℤ swing a b w *ℤ t .num) (turn-side (sideOf a b p) (swing a b w) (t .den) (t .num)) (h .0 .0 .1))
+        (lt-le _ _ (t .some)));
     left = rw (side-at t) (nn-mul (sideOf a b p *ℤ t .den +ℤ swing a b w *ℤ t .num) (t .den) (h .0 .0 .0) (lt-le _ _ (t .some)));
     x-low = rw (least-times (t .den) (a .x) (b .x) (t .some)) (diff-le _ _ _ (low-eq (t .den) (t .num) (p .x) (w .x) (least (a .x) (b .x))) (h .0 .1 .0));
     x-high = rw (most-times (t .den) (a .x) (b .x) (t .some)) (diff-le _ _ _ (high-eq (t .den) (t .num) (p .x) (w .x) (most (a .x) (b .x))) (h .0 .1 .1));
@@ -90,10 +97,20 @@ module _ (p w a b : Pt) where
   boxed-six : (t : Frac) → Boxed (at p w t) (times (t .den) a) (times (t .den) b) → Six t
   boxed-six t h = (
     (
-      (nn-factor (sideOf a b p *ℤ t .den +ℤ swing a b w *ℤ t .num) (t .den) (t .some) (rw (side-at t) at (h .left)), le-diff _ (pos 0) (sideOf a b p *ℤ t .den +ℤ swing a b w *ℤ t .num) (turn-side (sideOf a b p) (swing a b w) (t .den) (t .num)) (np-factor (sideOf a b p *ℤ t .den +ℤ swing a b w *ℤ t .num) (t .den) (t .some) (rw (side-at t) at (h .right)))),
-      (le-diff _ _ _ (low-eq (t .den) (t .num) (p .x) (w .x) (least (a .x) (b .x))) (rw (least-times (t .den) (a .x) (b .x) (t .some)) at (h .x-low)), le-diff _ _ _ (high-eq (t .den) (t .num) (p .x) (w .x) (most (a .x) (b .x))) (rw (most-times (t .den) (a .x) (b .x) (t .some)) at (h .x-high))),
+      (
+        nn-factor (sideOf a b p *ℤ t .den +ℤ swing a b w *ℤ t .num) (t .den) (t .some) (rw (side-at t) at (h .left)),
+        le-diff _ (pos 0) (sideOf a b p *ℤ t .den +ℤ swing a b w *ℤ t .num) (turn-side (sideOf a b p) (swing a b w) (t .den) (t .num))
+            (np-factor (sideOf a b p *ℤ t .den +ℤ swing a b w *ℤ t .num) (t .den) (t .some) (rw (side-at t) at (h .right))),
+      ),
+      (
+        le-diff _ _ _ (low-eq (t .den) (t .num) (p .x) (w .x) (least (a .x) (b .x))) (rw (least-times (t .den) (a .x) (b .x) (t .some)) at (h .x-low)),
+        le-diff _ _ _ (high-eq (t .den) (t .num) (p .x) (w .x) (most (a .x) (b .x))) (rw (most-times (t .den) (a .x) (b .x) (t .some)) at (h .x-high)),
+      ),
     ),
-    (le-diff _ _ _ (low-eq (t .den) (t .num) (p .y) (w .y) (least (a .y) (b .y))) (rw (least-times (t .den) (a .y) (b .y) (t .some)) at (h .y-low)), le-diff _ _ _ (high-eq (t .den) (t .num) (p .y) (w .y) (most (a .y) (b .y))) (rw (most-times (t .den) (a .y) (b .y) (t .some)) at (h .y-high))),
+    (
+      le-diff _ _ _ (low-eq (t .den) (t .num) (p .y) (w .y) (least (a .y) (b .y))) (rw (least-times (t .den) (a .y) (b .y) (t .some)) at (h .y-low)),
+      le-diff _ _ _ (high-eq (t .den) (t .num) (p .y) (w .y) (most (a .y) (b .y))) (rw (most-times (t .den) (a .y) (b .y) (t .some)) at (h .y-high)),
+    ),
   )
 
   -- clipping by the edge keeps the moments on it

@@ -46,8 +46,14 @@ module _ (r : Run) (k : Piece) where
   band-clips =
       let c = clips _ ticks-proper (r .start .z -ℤ k .bottom) (r .speed .z -ℤ k .speed .z) in
       turned (both c (clips _ (c .proper) (k .top -ℤ r .start .z) (negℤ (r .speed .z -ℤ k .speed .z))))
-      (λ t h. record { bottom = diff-le _ _ _ (bottom-eq (t .den) (t .num) (k .bottom) (k .speed .z) (r .start .z) (r .speed .z)) (h .0); top = diff-le _ _ _ (top-eq (t .den) (t .num) (k .top) (k .speed .z) (r .start .z) (r .speed .z)) (h .1) })
-      (λ t h. (le-diff _ _ _ (bottom-eq (t .den) (t .num) (k .bottom) (k .speed .z) (r .start .z) (r .speed .z)) (h .bottom), le-diff _ _ _ (top-eq (t .den) (t .num) (k .top) (k .speed .z) (r .start .z) (r .speed .z)) (h .top)))
+      (λ t h. record {
+        bottom = diff-le _ _ _ (bottom-eq (t .den) (t .num) (k .bottom) (k .speed .z) (r .start .z) (r .speed .z)) (h .0);
+        top = diff-le _ _ _ (top-eq (t .den) (t .num) (k .top) (k .speed .z) (r .start .z) (r .speed .z)) (h .1);
+      })
+      (λ t h. (
+        le-diff _ _ _ (bottom-eq (t .den) (t .num) (k .bottom) (k .speed .z) (r .start .z) (r .speed .z)) (h .bottom),
+        le-diff _ _ _ (top-eq (t .den) (t .num) (k .top) (k .speed .z) (r .start .z) (r .speed .z)) (h .top),
+      ))
 
   abbrev span : Span
   span = bandSpan r k
@@ -100,7 +106,9 @@ module _ (r : Run) (k : Piece) where
       touched p = (t, j, eq-le _ _ refl, (p .edge, p .below, p .on))
 
       -- the same parity at the begin would be inside
-      inside-then : Parity (over (t .den) corners) (at (pointOf r) (motion r k) t) 1 → parity (flag (over (s .den) corners) (at (pointOf r) (motion r k) s)) (corners .size) ≡ parity (flag (over (t .den) corners) (at (pointOf r) (motion r k) t)) (corners .size) → Here s
+      inside-then : Parity (over (t .den) corners) (at (pointOf r) (motion r k) t) 1
+          → parity (flag (over (s .den) corners) (at (pointOf r) (motion r k) s)) (corners .size) ≡ parity
+          (flag (over (t .den) corners) (at (pointOf r) (motion r k) t)) (corners .size) → Here s
       inside-then p e = inr (subst (Parity (over (s .den) corners) (at (pointOf r) (motion r k) s)) (ap bit e ∙ sym (place-parity _ _ 1 p)) (parity-place _ _ (λ o. h (inl o))))
 
       crossed : Parity (over (t .den) corners) (at (pointOf r) (motion r k) t) 1 → (u : Frac) × In span u × (u ≼ t) × Touched u
@@ -110,7 +118,8 @@ module _ (r : Run) (k : Piece) where
   later c s i f h (never e g) = subst (λ (n : ℕ). Verdict r k (answer n)) (sym e) (λ t m q. let x = touch-before s i f h t (in-span t m (q .band)) q in g (x .0) (x .1) (x .3))
   later c s i f h (when u j q m g b) =
       mark-answers r k c b
-      (marked c u j (touching u j (inl (record { edge = q .0; below = q .1; on = q .2 }))) m (λ t l z. let x = touch-before s i f h t l z in trans (mark (pos c)) (x .0) t (g (x .0) (x .1) (x .3)) (x .2)))
+      (marked c u j (touching u j (inl (record { edge = q .0; below = q .1; on = q .2 }))) m
+      (λ t l z. let x = touch-before s i f h t l z in trans (mark (pos c)) (x .0) t (g (x .0) (x .1) (x .3)) (x .2)))
 
   abbrev met : Bool
   met = onOrInside (over (span .lowD) corners) (startPoint (pointOf r) (motion r k) span)
@@ -125,11 +134,13 @@ module _ (r : Run) (k : Piece) where
       here : In span lo → Here lo → Verdict r k (answer (first span))
       here i h =
           let m = first-mark span proper in
-          mark-answers r k (first span) (below-none (first span) lo m (early ok lo i)) (marked (first span) lo i (touching lo i h) m (λ t j c. trans (mark (pos (first span))) lo t (m .low) (j .after)))
+          mark-answers r k (first span) (below-none (first span) lo m (early ok lo i))
+          (marked (first span) lo i (touching lo i h) m (λ t j c. trans (mark (pos (first span))) lo t (m .low) (j .after)))
 
       from : (b : Bool) → met ≡ b → In span lo → Verdict r k (answer (cond b (first span) (touches corners (pointOf r) (motion r k) span (corners .size))))
       from true e i = here i (met-yes _ _ e)
-      from false e i = later (touches corners (pointOf r) (motion r k) span (corners .size)) lo i (λ t j. j .after) (met-no _ _ e) (first-touches corners (pointOf r) (motion r k) span proper (early ok) (corners .size))
+      from false e i = later (touches corners (pointOf r) (motion r k) span (corners .size)) lo i (λ t j. j .after) (met-no _ _ e)
+          (first-touches corners (pointOf r) (motion r k) span proper (early ok) (corners .size))
 
       go : (b : Bool) → some span ≡ b → Verdict r k (answer (cond b (cond met (first span) (touches corners (pointOf r) (motion r k) span (corners .size))) NONE))
       go true e = from met refl (begins span proper e)

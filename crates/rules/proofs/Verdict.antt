@@ -14,7 +14,9 @@ use Rattle.rules.specs.Reach.{Ticks, Run, Piece}
 use Rattle.rules.specs.Verdict.{Answer, clear, blocked, NONE, answer, Mark, Verdict}
 
 no-earlier : (r : Run) (p : Piece) (j k : ℕ) → Mark r p j → Mark r p k → pos j ≤ℤ pos k
-no-earlier r p j k f g = cancel-next (pos j) (pos k) (pos 256) (mark (pos j) .some) (less (mark (pos j)) (mark (pos k +ℤ pos 1)) (λ h. f .before (g .when) (g .moment) (lt-then-le (g .when) (mark (pos k +ℤ pos 1)) (mark (pos j)) (g .within .high) h) (g .contact)))
+no-earlier r p j k f g = cancel-next (pos j) (pos k) (pos 256) (mark (pos j) .some)
+    (less (mark (pos j)) (mark (pos k +ℤ pos 1))
+    (λ h. f .before (g .when) (g .moment) (lt-then-le (g .when) (mark (pos k +ℤ pos 1)) (mark (pos j)) (g .within .high) h) (g .contact)))
 
 pub one-verdict : (r : Run) (p : Piece) (a b : Answer) → Verdict r p a → Verdict r p b → a ≡ b
 one-verdict r p clear clear f g = refl

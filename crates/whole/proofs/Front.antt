@@ -35,7 +35,8 @@ module _ {A : Type 0} (z : A) (front before : List A) where
       first = λ i k. List·getD-append front (drop (length front) before) z i k;
       stays = record {
         size = omega (arith, length-append front (drop (length front) before), length-drop (length front) before);
-        rest = λ i k. let e : length front + (i - length front) ≡ i = omega arith in rw e at (getD-append-add front (drop (length front) before) (i - length front) z ∙ getD-drop (length front) before (i - length front) z);
+        rest = λ i k. let e : length front + (i - length front) ≡ i = omega arith in
+            rw e at (getD-append-add front (drop (length front) before) (i - length front) z ∙ getD-drop (length front) before (i - length front) z);
       };
     }
 

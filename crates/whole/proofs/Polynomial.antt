@@ -221,22 +221,36 @@ pub vars5 {ℓ} : (P : ℤ → ℤ → ℤ → ℤ → ℤ → Type ℓ) → ((�
 unfolding val
 vars5 P f x0 x1 x2 x3 x4 = f (x0 ∷ x1 ∷ x2 ∷ x3 ∷ x4 ∷ [])
 
-pub vars6 {ℓ} : (P : ℤ → ℤ → ℤ → ℤ → ℤ → ℤ → Type ℓ) → ((ρ : List ℤ) → P (val ρ (var 0)) (val ρ (var 1)) (val ρ (var 2)) (val ρ (var 3)) (val ρ (var 4)) (val ρ (var 5))) → (x0 x1 x2 x3 x4 x5 : ℤ) → P x0 x1 x2 x3 x4 x5
+pub vars6 {ℓ} : (P : ℤ → ℤ → ℤ → ℤ → ℤ → ℤ → Type ℓ)
+    → ((ρ : List ℤ) → P (val ρ (var 0)) (val ρ (var 1)) (val ρ (var 2)) (val ρ (var 3)) (val ρ (var 4)) (val ρ (var 5))) → (x0 x1 x2 x3 x4 x5 : ℤ)
+    → P x0 x1 x2 x3 x4 x5
 unfolding val
 vars6 P f x0 x1 x2 x3 x4 x5 = f (x0 ∷ x1 ∷ x2 ∷ x3 ∷ x4 ∷ x5 ∷ [])
 
-pub vars7 {ℓ} : (P : ℤ → ℤ → ℤ → ℤ → ℤ → ℤ → ℤ → Type ℓ) → ((ρ : List ℤ) → P (val ρ (var 0)) (val ρ (var 1)) (val ρ (var 2)) (val ρ (var 3)) (val ρ (var 4)) (val ρ (var 5)) (val ρ (var 6))) → (x0 x1 x2 x3 x4 x5 x6 : ℤ) → P x0 x1 x2 x3 x4 x5 x6
+pub vars7 {ℓ} : (P : ℤ → ℤ → ℤ → ℤ → ℤ → ℤ → ℤ → Type ℓ)
+    → ((ρ : List ℤ) → P (val ρ (var 0)) (val ρ (var 1)) (val ρ (var 2)) (val ρ (var 3)) (val ρ (var 4)) (val ρ (var 5)) (val ρ (var 6)))
+    → (x0 x1 x2 x3 x4 x5 x6 : ℤ) → P x0 x1 x2 x3 x4 x5 x6
 unfolding val
 vars7 P f x0 x1 x2 x3 x4 x5 x6 = f (x0 ∷ x1 ∷ x2 ∷ x3 ∷ x4 ∷ x5 ∷ x6 ∷ [])
 
-pub vars8 {ℓ} : (P : ℤ → ℤ → ℤ → ℤ → ℤ → ℤ → ℤ → ℤ → Type ℓ) → ((ρ : List ℤ) → P (val ρ (var 0)) (val ρ (var 1)) (val ρ (var 2)) (val ρ (var 3)) (val ρ (var 4)) (val ρ (var 5)) (val ρ (var 6)) (val ρ (var 7))) → (x0 x1 x2 x3 x4 x5 x6 x7 : ℤ) → P x0 x1 x2 x3 x4 x5 x6 x7
+pub vars8 {ℓ} : (P : ℤ → ℤ → ℤ → ℤ → ℤ → ℤ → ℤ → ℤ → Type ℓ)
+    → ((ρ : List ℤ) → P (val ρ (var 0)) (val ρ (var 1)) (val ρ (var 2)) (val ρ (var 3)) (val ρ (var 4)) (val ρ (var 5)) (val ρ (var 6)) (val ρ (var 7)))
+    → (x0 x1 x2 x3 x4 x5 x6 x7 : ℤ) → P x0 x1 x2 x3 x4 x5 x6 x7
 unfolding val
 vars8 P f x0 x1 x2 x3 x4 x5 x6 x7 = f (x0 ∷ x1 ∷ x2 ∷ x3 ∷ x4 ∷ x5 ∷ x6 ∷ x7 ∷ [])
 
-pub vars9 {ℓ} : (P : ℤ → ℤ → ℤ → ℤ → ℤ → ℤ → ℤ → ℤ → ℤ → Type ℓ) → ((ρ : List ℤ) → P (val ρ (var 0)) (val ρ (var 1)) (val ρ (var 2)) (val ρ (var 3)) (val ρ (var 4)) (val ρ (var 5)) (val ρ (var 6)) (val ρ (var 7)) (val ρ (var 8))) → (x0 x1 x2 x3 x4 x5 x6 x7 x8 : ℤ) → P x0 x1 x2 x3 x4 x5 x6 x7 x8
+pub vars9 {ℓ} : (P : ℤ → ℤ → ℤ → ℤ → ℤ → ℤ → ℤ → ℤ → ℤ → Type ℓ)
+    →
+    ((ρ : List ℤ)
+    → P (val ρ (var 0)) (val ρ (var 1)) (val ρ (var 2)) (val ρ (var 3)) (val ρ (var 4)) (val ρ (var 5)) (val ρ (var 6)) (val ρ (var 7)) (val ρ (var 8)))
+    → (x0 x1 x2 x3 x4 x5 x6 x7 x8 : ℤ) → P x0 x1 x2 x3 x4 x5 x6 x7 x8
 unfolding val
 vars9 P f x0 x1 x2 x3 x4 x5 x6 x7 x8 = f (x0 ∷ x1 ∷ x2 ∷ x3 ∷ x4 ∷ x5 ∷ x6 ∷ x7 ∷ x8 ∷ [])
 
-pub vars10 {ℓ} : (P : ℤ → ℤ → ℤ → ℤ → ℤ → ℤ → ℤ → ℤ → ℤ → ℤ → Type ℓ) → ((ρ : List ℤ) → P (val ρ (var 0)) (val ρ (var 1)) (val ρ (var 2)) (val ρ (var 3)) (val ρ (var 4)) (val ρ (var 5)) (val ρ (var 6)) (val ρ (var 7)) (val ρ (var 8)) (val ρ (var 9))) → (x0 x1 x2 x3 x4 x5 x6 x7 x8 x9 : ℤ) → P x0 x1 x2 x3 x4 x5 x6 x7 x8 x9
+pub vars10 {ℓ} : (P : ℤ → ℤ → ℤ → ℤ → ℤ → ℤ → ℤ → ℤ → ℤ → ℤ → Type ℓ)
+    →
+    ((ρ : List ℤ)
+    → P (val ρ (var 0)) (val ρ (var 1)) (val ρ (var 2)) (val ρ (var 3)) (val ρ (var 4)) (val ρ (var 5)) (val ρ (var 6)) (val ρ (var 7)) (val ρ (var 8))
+    (val ρ (var 9))) → (x0 x1 x2 x3 x4 x5 x6 x7 x8 x9 : ℤ) → P x0 x1 x2 x3 x4 x5 x6 x7 x8 x9
 unfolding val
 vars10 P f x0 x1 x2 x3 x4 x5 x6 x7 x8 x9 = f (x0 ∷ x1 ∷ x2 ∷ x3 ∷ x4 ∷ x5 ∷ x6 ∷ x7 ∷ x8 ∷ x9 ∷ [])
