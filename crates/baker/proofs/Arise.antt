@@ -35,10 +35,9 @@ use Rattle.room.specs.Step.{StepFault, head, block}
 use Rattle.room.specs.Verdicts.{verdictsChecks}
 use Rattle.room.proofs.Images.{head-few}
 use Rattle.book.specs.Ask.{askChecks}
-use Rattle.baker.specs.Coded.{refusalCode, verdictCode}
-use Rattle.baker.specs.Told.{Fits, told}
+use Rattle.baker.specs.Coded.{verdictCode}
+use Rattle.baker.specs.Told.{Fits}
 use Rattle.baker.specs.Export.{corners, exportChecks}
-use Rattle.baker.proofs.Readable.{readable}
 
 -- what a check gives
 record Fit (c : Check) : Type 0 where
@@ -124,8 +123,9 @@ fit-header l =
     (asks (omega arith) (λ p. asks (omega arith) (λ p. scans (omega arith) (λ i h. omega arith) none))))
 
 -- a block's own bytes, and then what is inside
-fit-inside : {A : Type 0} (l : List ℕ) (bytes : List Check) (In : A → Type 0) (cs : A → List Check) → AllFit bytes → ((a : A) → AllFit (cs a)) → AllFit ((blockChecks l ++ bytes) ++ (inside In cs ∷ []))
-fit-inside l bytes In cs f h = row (blockChecks l ++ bytes) _ (row (blockChecks l) bytes (fit-block l) (λ p. f)) (λ p. last (record { fits = λ s g. h (g .0) .fits s (g .2) }))
+module _ {A : Type 0} (l : List ℕ) (bytes : List Check) (In : A → Type 0) (cs : A → List Check) where
+  fit-inside : AllFit bytes → ((a : A) → AllFit (cs a)) → AllFit ((blockChecks l ++ bytes) ++ (inside In cs ∷ []))
+  fit-inside f h = row (blockChecks l ++ bytes) _ (row (blockChecks l) bytes (fit-block l) (λ p. f)) (λ p. last (record { fits = λ s g. h (g .0) .fits s (g .2) }))
 
 pub fit-run-block : (l : List ℕ) → AllFit (runBlockChecks l)
 unfolding runBlockChecks runBytes
@@ -160,8 +160,8 @@ fit-head image = asks (omega arith) (λ p. row (headerChecks (blockAt image 0)) 
 fit-room : (image : List ℕ) → AllFit (roomChecks image)
 unfolding roomChecks
 fit-room image =
-    row (headChecks image) (piecesCheck image ∷ []) (fit-head image)
-    (λ p. last (record { fits = λ s f. let w = f .2 in subst Fits (sym (f .3)) (in-block image (f .0) (f .1) (omega (arith, head-few image p, w .below)) (w .fault)) }))
+    row (headChecks image) (piecesCheck pieceBlockChecks image ∷ []) (fit-head image)
+    (λ p. last (record { fits = λ s f. subst Fits (sym (f .same)) (in-block image (f .piece) (f .refusal) (omega (arith, head-few image p, f .below)) (f .fault)) }))
 
 pub fit-verdicts : (r : Run) (image list : List ℕ) → AllFit (verdictsChecks r image list)
 unfolding verdictsChecks
@@ -221,10 +221,6 @@ fit-obj file k size =
 -- a lent list that is too short
 pub fit-short : Fits (refuse 10 0 0)
 fit-short = small 10 0 0 (omega arith) (omega arith) (omega arith)
-
--- ---- so each of them reads back
-pub fault-told : (cs : List Check) → AllFit cs → (s : Refusal) → Fault cs s → told (refusalCode s) ≡ inr s
-fault-told cs f s h = readable (inr s) (f .fits s h)
 
 -- ---- numbers: a mark is below what codes clear
 pub mark-told : (r : Run) (k : Piece) (m : ℕ) → Tells r k (Mark m) → m < verdictCode Clear

@@ -16,8 +16,9 @@ back z = toZ w32 (ofZ w32 z)
 pub pt-back : {x y : ℤ} → SFits w32 x → SFits w32 y → pt (back x) (back y) ≡ pt x y
 pt-back f g = λ i. pt (toZ-ofZ f i) (toZ-ofZ g i)
 
-pub run-back : {x y z u v w : ℤ} {t : ℕ} → SFits w32 x → SFits w32 y → SFits w32 z → SFits w32 u → SFits w32 v → SFits w32 w → run (back x) (back y) (back z) (back u) (back v) (back w) t ≡ run x y z u v w t
-run-back {x} {y} {z} {u} {v} {w} {t} a b c d e f = λ i. run (toZ-ofZ a i) (toZ-ofZ b i) (toZ-ofZ c i) (toZ-ofZ d i) (toZ-ofZ e i) (toZ-ofZ f i) t
+module _ {x y z u v w : ℤ} {t : ℕ} where
+  pub run-back : SFits w32 x → SFits w32 y → SFits w32 z → SFits w32 u → SFits w32 v → SFits w32 w → run (back x) (back y) (back z) (back u) (back v) (back w) t ≡ run x y z u v w t
+  run-back a b c d e f = λ i. run (toZ-ofZ a i) (toZ-ofZ b i) (toZ-ofZ c i) (toZ-ofZ d i) (toZ-ofZ e i) (toZ-ofZ f i) t
 
 pub piece-back : {b t u v w : ℤ} {l : List ℤ} → SFits w32 b → SFits w32 t → SFits w32 u → SFits w32 v → SFits w32 w → piece (back b) (back t) (back u) (back v) (back w) l ≡ piece b t u v w l
 piece-back {b} {t} {u} {v} {w} {l} c d e f g = λ i. piece (toZ-ofZ c i) (toZ-ofZ d i) (toZ-ofZ e i) (toZ-ofZ f i) (toZ-ofZ g i) l

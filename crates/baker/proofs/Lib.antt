@@ -4,4 +4,6 @@ pub mod Listed
 pub mod Pairs
 pub mod Readable
 pub mod Arise
+pub mod Read
+pub mod Caller
 pub mod Unique

@@ -20,18 +20,21 @@ use Rattle.block.specs.declared.PieceRead.{PieceRead}
 use Rattle.block.specs.Reading.{PieceFound, PieceSays}
 use Rattle.block.proofs.PieceLaws.{held-few, held-long}
 use Rattle.intake.specs.Footprint.{putChecks}
-use Rattle.baker.specs.Coded.{refusalCode, checkedCode}
-use Rattle.baker.specs.Listed.{out, kept, listed, Holds}
+use Rattle.baker.specs.Coded.{refusalCode, checkedCode, out, coded}
+use Rattle.baker.specs.Listed.{kept, listed, Holds}
 
 module _ (least : ℕ) (before : List ℤ) (c : ℕ) (l : List ℤ) where
-  pub long : least ≤ length before → listed least before c l ≡ out c (fronted l before)
+  pub long : least ≤ length before → coded (listed least before c l) ≡ out c (fronted l before)
   long h = rw (le-leb least (length before) h)
 
-  pub short : length before < least → listed least before c l ≡ kept before (refuse 10 0 0)
+  pub short : length before < least → coded (listed least before c l) ≡ coded (kept before (refuse 10 0 0))
   short h = rw (lt-leb least (length before) h)
 
 -- one part, and its answer
-pub put-listed : (l before after : List ℤ) (r : Checked) (c : ℕ) → Writes (putChecks l before) (fronted l before) before after r → c ≡ checkedCode r → out c after ≡ listed (length l) before 0 l
+abbrev Puts : List ℤ → List ℤ → List ℤ → Checked → Type 0
+Puts l before after r = Writes (putChecks l before) (fronted l before) before after r
+
+pub put-listed : (l before after : List ℤ) (r : Checked) (c : ℕ) → Puts l before after r → c ≡ checkedCode r → out c after ≡ coded (listed (length l) before 0 l)
 put-listed l before after Good c w e = (λ i. out (e i) (w .1 i)) ∙ sym (long (length l) before 0 l (w .0 .0))
 put-listed l before after (Refused x) c w e =
     ⊎-elim (λ h. (λ i. out ((e ∙ ap refusalCode (h .1)) i) (w .1 i)) ∙ sym (short (length l) before 0 l (less (h .0)))) (λ h. absurd (h .1)) (w .0)
@@ -40,15 +43,19 @@ put-listed l before after (Refused x) c w e =
     less h = ⊎-elim (λ (k : length l ≤ length before). absurd (h k)) (λ k. k) (ℕ-or (length l) (length before))
 
 -- a part that fits
-pub put-fits : (l before after : List ℤ) (r : Checked) → length l ≤ length before → Writes (putChecks l before) (fronted l before) before after r → after ≡ fronted l before
+pub put-fits : (l before after : List ℤ) (r : Checked) → length l ≤ length before → Puts l before after r → after ≡ fronted l before
 put-fits l before after r h w = written (putChecks l before) (sharp-demand _ _, tt) (fronted l before) before after r w (h, tt) .1
 
 -- and another after it, put into what stands past the first
-pub laid-two : (before l m : List ℤ) → let first = fronted l before in let n = length first - length l in take (length l) first ++ (fronted m (take n (drop (length l) first)) ++ drop n (drop (length l) first)) ≡ fronted (l ++ m) before
+abbrev putAt : ℕ → List ℤ → List ℤ → List ℤ
+putAt k m l = let n = length l - k in take k l ++ (fronted m (take n (drop k l)) ++ drop n (drop k l))
+
+pub laid-two : (before l m : List ℤ) → putAt (length l) m (fronted l before) ≡ fronted (l ++ m) before
 laid-two before l m =
     let first = fronted l before in let rest = drop (length l) before in
     let k : length rest ≤ length first - length l = omega (arith, length-append l rest) in
-    rw (take-at l rest (length l) refl, drop-at l rest (length l) refl, take-all (length first - length l) rest k, drop-of-length-le rest k, append-nil, append-assoc l m, drop-drop (length m) (length l) before, length-append l m)
+    let upto = take-at l rest (length l) refl in let past = drop-at l rest (length l) refl in
+    rw (upto, past, take-all (length first - length l) rest k, drop-of-length-le rest k, append-nil, append-assoc l m, drop-drop (length m) (length l) before, length-append l m)
 
 -- ---- a piece that was read holds its corners
 read-found : (l : List ℕ) (r : PieceRead) (x : Checked) → PieceFound l r x → Holds r

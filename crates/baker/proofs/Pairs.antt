@@ -56,18 +56,28 @@ module _ (cs ds : List Corner) (n : ℕ) (same : (i : ℕ) → i < n → cornerA
   checks-same (suc k) h = λ i. checks-same k (omega arith) i ++ cornerChecks (same k (omega arith) i) k
 
   later-same : (before : List ℤ) (r : Checked) (later : List ℤ) → Later cs n before r later → Later ds n before r later
-  later-same before Good later f =
-      (record { x = λ i h. subst (λ (c : Corner). Answer (c .x) (Grid (getD later (2 * i) (pos 0)))) (same i h) (f .0 .x i h); y = λ i h. subst (λ (c : Corner). Answer (c .y) (Grid (getD later (2 * i + 1) (pos 0)))) (same i h) (f .0 .y i h) }, f .1)
+  later-same before Good later f = (
+    record {
+      x = λ i h. subst (λ (c : Corner). Answer (c .x) (Grid (getD later (2 * i) (pos 0)))) (same i h) (f .0 .x i h);
+      y = λ i h. subst (λ (c : Corner). Answer (c .y) (Grid (getD later (2 * i + 1) (pos 0)))) (same i h) (f .0 .y i h);
+    },
+    f .1,
+  )
   later-same before (Refused x) later f = f
 
   intake-same : (before : List ℤ) (r : Checked) (later : List ℤ) → Intake cs n before r later → Intake ds n before r later
   unfolding intakeChecks
-  intake-same before r later f = record { finds = subst (λ (k : List Check). Finds (demand (Corners n) (refuse 5 0 0) ∷ demand (2 * n ≤ length before) (refuse 10 0 0) ∷ k) r) (checks-same n (omega arith)) (f .finds); list = later-same before r later (f .list) }
+  intake-same before r later f =
+      record {
+        finds = subst (λ (k : List Check). Finds (demand (Corners n) (refuse 5 0 0) ∷ demand (2 * n ≤ length before) (refuse 10 0 0) ∷ k) r) (checks-same n (omega arith)) (f .finds);
+        list = later-same before r later (f .list);
+      }
 
 -- the intake of an even list's corners
-pub exported : (xs : List Float) (cs : List Corner) (before later : List ℤ) (r : Checked) → length xs % 2 ≡ 0 → Paired xs (length xs / 2) cs → Intake cs (length xs / 2) before r later → Exported xs before later r
-unfolding exportChecks
-exported xs cs before later r e p f =
-    let n = length xs / 2 in
-    let g = intake-same cs (corners xs) n (λ i h. p i h ∙ sym (corners-at xs i (omega arith))) before r later f in
-    record { finds = finds-after (demand (length xs % 2 ≡ 0) (refuse 5 0 0)) (intakeChecks (corners xs) n (length before)) r e (g .finds); list = g .list }
+module _ (xs : List Float) (cs : List Corner) (before later : List ℤ) (r : Checked) (even : length xs % 2 ≡ 0) where
+  pub exported : let n = length xs / 2 in Paired xs n cs → Intake cs n before r later → Exported xs before later r
+  unfolding exportChecks
+  exported p f =
+      let n = length xs / 2 in
+      let g = intake-same cs (corners xs) n (λ i h. p i h ∙ sym (corners-at xs i (omega arith))) before r later f in
+      record { finds = finds-after (demand (length xs % 2 ≡ 0) (refuse 5 0 0)) (intakeChecks (corners xs) n (length before)) r even (g .finds); list = g .list }

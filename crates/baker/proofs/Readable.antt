@@ -1,28 +1,31 @@
--- A caller tells each answer from its code: it reads back as the number or the refusal that it codes. Assumes nothing.
+-- A caller tells each answer from its code: the macros of the header read back what it codes. Assumes nothing.
 use mathlib.Core.Path.{_≡_, sym, ap, _∙_}
-use mathlib.Core.Logic.{_⊎_, inl, inr}
-use Prim.Native.Nat.{ℕ, _/_, _%_, _^_, _≤_}
+use Prim.Native.Nat.{ℕ}
 use native.Mathlib.Omega.{arith}
-use borrow.Author.Tests.{lt-ltb, le-ltb}
 use Rattle.rules.specs.Refusal.{Refusal}
-use Rattle.baker.specs.Coded.{refusalCode}
-use Rattle.baker.specs.Told.{Fits, Within, code, told}
+use Rattle.baker.specs.Coded.{Meaning, value, remembered, refusal, refusalCode, codeOf}
+use Rattle.baker.specs.Told.{Fits, Within, told, Refuses, Macros, Reads}
 
--- bit 63 of a refusal is set
-marked : (s : Refusal) → 2 ^ 63 ≤ refusalCode s
+-- bit 63 of a refusal is set, and its fields are where they were put
+refuses : (s : Refusal) → Fits s → Refuses (refusalCode s) s
 unfolding refusalCode
-marked s = omega arith
+refuses s f = record { refused = omega (arith, f); number = omega (arith, f); block = omega (arith, f); a = omega (arith, f); b = omega (arith, f) }
 
--- the fields are where they were put
-fields : (s : Refusal) → Fits s → let c = refusalCode s in (c / 2 ^ 48 % 2 ^ 8 ≡ s .number) × (c / 2 ^ 40 % 2 ^ 8 ≡ s .block) × (c / 2 ^ 16 % 2 ^ 24 ≡ s .a) × (c % 2 ^ 16 ≡ s .b)
-unfolding refusalCode
-fields s f = (omega (arith, f), omega (arith, f), omega (arith, f), omega (arith, f))
+macros : (m : Meaning) → Within m → Macros (codeOf m) m
+macros (value n) h = record { refused = omega arith; remembered = omega arith; value = omega arith }
+macros (remembered n) h = record { refused = omega arith; remembered = omega arith; value = omega arith }
+macros (refusal s) f = refuses s f
 
-pub readable : (x : ℕ ⊎ Refusal) → Within x → told (code x) ≡ x
+-- what the macros say is what is told
+as-told : (c : ℕ) (m : Meaning) → Macros c m → told c ≡ m
 unfolding told
-readable (inl n) h = rw (lt-ltb n (2 ^ 63) h)
-readable (inr s) f = rw (le-ltb (refusalCode s) (2 ^ 63) (marked s)) (let e = fields s f in λ i. inr (record { number = e .0 i; block = e .1 i; a = e .2 i; b = e .3 i }))
+as-told c (value n) h = rw (h .refused, h .remembered, h .value)
+as-told c (remembered n) h = rw (h .refused, h .remembered, h .value)
+as-told c (refusal s) h = rw (h .refused) (λ i. refusal (record { number = h .number i; block = h .block i; a = h .a i; b = h .b i }))
 
--- so equal codes are codes of one answer, and none of a number is one of a refusal
-pub told-one : (x y : ℕ ⊎ Refusal) → Within x → Within y → code x ≡ code y → x ≡ y
-told-one x y h k e = sym (readable x h) ∙ ap told e ∙ readable y k
+pub readable : (m : Meaning) → Within m → Reads (codeOf m) m
+readable m h = let k = macros m h in record { macros = k; whole = as-told (codeOf m) m k }
+
+-- so equal codes are codes of one answer, and none of a value is one of a refusal
+pub told-one : (m n : Meaning) → Within m → Within n → codeOf m ≡ codeOf n → m ≡ n
+told-one m n h k e = sym (readable m h .whole) ∙ ap told e ∙ readable n k .whole

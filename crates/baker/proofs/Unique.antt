@@ -32,9 +32,11 @@ use Rattle.room.specs.Verdicts.{VerdictsSay}
 use Rattle.room.proofs.Unique as room
 use Rattle.book.specs.Ask.{AskSays}
 use Rattle.book.proofs.Unique as book
-use Rattle.baker.specs.Coded.{Coded, checkedCode, placedCode, verdictCode, headerCode, countedCode, askedCode, outlineCode}
-use Rattle.baker.specs.Listed.{Out, out, runListed, pieceListed, stepListed}
-use Rattle.baker.specs.Export.{One, one, takenOne, corners, exportChecks, Exported}
+use Rattle.baker.specs.Coded.{Coded, Meaning, checkedCode, placedCode, verdictCode, headerCode, countedCode, askedCode, outlineCode, Out, out, coded}
+use Rattle.baker.specs.Listed.{runListed, pieceListed, stepListed}
+use Rattle.baker.specs.Export.{Lent, lent, takenOne, corners, exportChecks, Exported}
+use Rattle.baker.specs.Calls.{CheckRunGives, CheckPieceGives, PlaceGives, VerdictGives, WriteHeaderGives, WriteRunGives, WritePieceGives, ReadHeaderGives}
+use Rattle.baker.specs.Calls.{ReadRunGives, ReadPieceGives, RoomPieceGives, RoomVerdictsGives, AskGives, TakeGives, IntakeGives, ObjGives}
 
 -- ---- one answer, one code
 pub coded-one : {A B : Type 0} (S : A → Type 0) (f : A → B) (c d : B) → ((x y : A) → S x → S y → x ≡ y) → Coded S f c → Coded S f d → c ≡ d
@@ -46,9 +48,15 @@ coded-lent S f a b c d same h k =
     let e = same (h .answer) (k .answer) (h .says) (k .says) in
     (h .code ∙ ap f (e .0) ∙ sym (k .code), e .1)
 
--- a number and a list
-pub coded-list : {A : Type 0} (S : A → Type 0) (f : A → Out) (a b : List ℤ) (c d : ℕ) → ((x y : A) → S x → S y → x ≡ y) → Coded S f (out c a) → Coded S f (out d b) → (c ≡ d) × (a ≡ b)
-coded-list S f a b c d same h k = let e = coded-one S f (out c a) (out d b) same h k in (ap (λ (o : Out). o .code) e, ap (λ (o : Out). o .list) e)
+-- or where it is coded beside the answer
+module _ {A L : Type 0} (S : A → Type 0) (f : A → Out Meaning L) where
+  abbrev made : A → Out ℕ L
+  made x = coded (f x)
+
+  pub coded-beside : (a b : L) (c d : ℕ) → ((x y : A) → S x → S y → x ≡ y) → Coded S made (out c a) → Coded S made (out d b) → (c ≡ d) × (a ≡ b)
+  coded-beside a b c d same h k =
+      let e = coded-one S made (out c a) (out d b) same h k in
+      (ap (λ (o : Out ℕ L). o .says) e, ap (λ (o : Out ℕ L). o .after) e)
 
 -- ---- plain numbers
 -- the numbers of a run and of a piece, as a crate below takes them
@@ -58,52 +66,52 @@ numbers r = record { x = r .start .x; y = r .start .y; z = r .start .z; vx = r .
 abbrev band : Piece → Band
 band k = record { bottom = k .bottom; top = k .top; vx = k .speed .x; vy = k .speed .y; vz = k .speed .z }
 
-pub check-run-one : (r : Run) (c d : ℕ) → Coded (Finds (runChecks r)) checkedCode c → Coded (Finds (runChecks r)) checkedCode d → c ≡ d
+pub check-run-one : (r : Run) (c d : ℕ) → CheckRunGives r c → CheckRunGives r d → c ≡ d
 check-run-one r c d = coded-one (Finds (runChecks r)) checkedCode c d (piece.check-run-one (numbers r))
 
-pub check-piece-one : (k : Piece) (c d : ℕ) → Coded (Finds (pieceChecks k)) checkedCode c → Coded (Finds (pieceChecks k)) checkedCode d → c ≡ d
+pub check-piece-one : (k : Piece) (c d : ℕ) → CheckPieceGives k c → CheckPieceGives k d → c ≡ d
 check-piece-one k c d = coded-one (Finds (pieceChecks k)) checkedCode c d (piece.check-piece-one (band k) (k .corners))
 
-pub place-one : (p : Pt) (l : List ℤ) (c d : ℕ) → Coded (Lies p l) placedCode c → Coded (Lies p l) placedCode d → c ≡ d
+pub place-one : (p : Pt) (l : List ℤ) (c d : ℕ) → PlaceGives p l c → PlaceGives p l d → c ≡ d
 place-one p l c d = coded-one (Lies p l) placedCode c d (piece.place-one p l)
 
-pub verdict-one : (r : Run) (k : Piece) (c d : ℕ) → Coded (Tells r k) verdictCode c → Coded (Tells r k) verdictCode d → c ≡ d
+pub verdict-one : (r : Run) (k : Piece) (c d : ℕ) → VerdictGives r k c → VerdictGives r k d → c ≡ d
 verdict-one r k c d = coded-one (Tells r k) verdictCode c d (one-told r k)
 
 -- ---- blocks
-pub write-header-one : (n : ℕ) (before a b : List ℕ) (c d : ℕ) → Coded (Writes (headerAsked before n) (headerBlock n) before a) checkedCode c → Coded (Writes (headerAsked before n) (headerBlock n) before b) checkedCode d → (c ≡ d) × (a ≡ b)
+pub write-header-one : (n : ℕ) (before a b : List ℕ) (c d : ℕ) → WriteHeaderGives n before a c → WriteHeaderGives n before b d → (c ≡ d) × (a ≡ b)
 write-header-one n before a b c d = coded-lent (Writes (headerAsked before n) (headerBlock n) before) checkedCode a b c d (block.write-header-one n before a b)
 
-pub write-run-one : (r : Run) (before a b : List ℕ) (c d : ℕ) → Coded (Writes (runAsked before r) (runBlock r) before a) checkedCode c → Coded (Writes (runAsked before r) (runBlock r) before b) checkedCode d → (c ≡ d) × (a ≡ b)
+pub write-run-one : (r : Run) (before a b : List ℕ) (c d : ℕ) → WriteRunGives r before a c → WriteRunGives r before b d → (c ≡ d) × (a ≡ b)
 write-run-one r before a b c d = coded-lent (Writes (runAsked before r) (runBlock r) before) checkedCode a b c d (block.write-run-one (numbers r) before a b)
 
-pub write-piece-one : (k : Piece) (before a b : List ℕ) (c d : ℕ) → Coded (Writes (pieceAsked before k) (pieceBlock k) before a) checkedCode c → Coded (Writes (pieceAsked before k) (pieceBlock k) before b) checkedCode d → (c ≡ d) × (a ≡ b)
+pub write-piece-one : (k : Piece) (before a b : List ℕ) (c d : ℕ) → WritePieceGives k before a c → WritePieceGives k before b d → (c ≡ d) × (a ≡ b)
 write-piece-one k before a b c d = coded-lent (Writes (pieceAsked before k) (pieceBlock k) before) checkedCode a b c d (block.write-piece-one k before a b)
 
-pub read-header-one : (l : List ℕ) (c d : ℕ) → Coded (HeaderSays l) headerCode c → Coded (HeaderSays l) headerCode d → c ≡ d
+pub read-header-one : (l : List ℕ) (c d : ℕ) → ReadHeaderGives l c → ReadHeaderGives l d → c ≡ d
 read-header-one l c d = coded-one (HeaderSays l) headerCode c d (block.read-header-one l)
 
-pub read-run-one : (l : List ℕ) (before a b : List ℤ) (c d : ℕ) → Coded (RunSays l) (runListed before) (out c a) → Coded (RunSays l) (runListed before) (out d b) → (c ≡ d) × (a ≡ b)
-read-run-one l before a b c d = coded-list (RunSays l) (runListed before) a b c d (block.read-run-one l)
+pub read-run-one : (l : List ℕ) (before a b : List ℤ) (c d : ℕ) → ReadRunGives l before a c → ReadRunGives l before b d → (c ≡ d) × (a ≡ b)
+read-run-one l before a b c d = coded-beside (RunSays l) (runListed before) a b c d (block.read-run-one l)
 
-pub read-piece-one : (l : List ℕ) (before a b : List ℤ) (c d : ℕ) → Coded (PieceSays l) (pieceListed before) (out c a) → Coded (PieceSays l) (pieceListed before) (out d b) → (c ≡ d) × (a ≡ b)
-read-piece-one l before a b c d = coded-list (PieceSays l) (pieceListed before) a b c d (block.read-piece-one l)
+pub read-piece-one : (l : List ℕ) (before a b : List ℤ) (c d : ℕ) → ReadPieceGives l before a c → ReadPieceGives l before b d → (c ≡ d) × (a ≡ b)
+read-piece-one l before a b c d = coded-beside (PieceSays l) (pieceListed before) a b c d (block.read-piece-one l)
 
 -- ---- rooms and the book
-pub room-piece-one : (image : List ℕ) (place : ℕ) (before a b : List ℤ) (c d : ℕ) → Coded (StepSays image place) (stepListed before) (out c a) → Coded (StepSays image place) (stepListed before) (out d b) → (c ≡ d) × (a ≡ b)
-room-piece-one image place before a b c d = coded-list (StepSays image place) (stepListed before) a b c d (room.step-one image place)
+pub room-piece-one : (image : List ℕ) (place : ℕ) (before a b : List ℤ) (c d : ℕ) → RoomPieceGives image place before a c → RoomPieceGives image place before b d → (c ≡ d) × (a ≡ b)
+room-piece-one image place before a b c d = coded-beside (StepSays image place) (stepListed before) a b c d (room.step-one image place)
 
-pub room-verdicts-one : (r : Run) (image before a b : List ℕ) (c d : ℕ) → Coded (VerdictsSay r image before a) countedCode c → Coded (VerdictsSay r image before b) countedCode d → (c ≡ d) × (a ≡ b)
+pub room-verdicts-one : (r : Run) (image before a b : List ℕ) (c d : ℕ) → RoomVerdictsGives r image before a c → RoomVerdictsGives r image before b d → (c ≡ d) × (a ≡ b)
 room-verdicts-one r image before a b c d = coded-lent (VerdictsSay r image before) countedCode a b c d (room.verdicts-one r image before a b)
 
-pub ask-one : (r : Run) (k : Piece) (before a b : List ℕ) (c d : ℕ) → Coded (AskSays before a r k) askedCode c → Coded (AskSays before b r k) askedCode d → (c ≡ d) × (a ≡ b)
+pub ask-one : (r : Run) (k : Piece) (before a b : List ℕ) (c d : ℕ) → AskGives r k before a c → AskGives r k before b d → (c ≡ d) × (a ≡ b)
 ask-one r k before a b c d = coded-lent (λ l. AskSays before l r k) askedCode a b c d (λ x y h g. (book.one-answer before a b r k x y h g, book.one-book before a b r k x y h g))
 
 -- ---- exported numbers
-pub take-one : (x : Float) (g h i : ℤ) (u v w : Float) (c d : ℕ) → Coded (Answer x) (takenOne g u) (one c h v) → Coded (Answer x) (takenOne g u) (one d i w) → (c ≡ d) × (h ≡ i) × (v ≡ w)
+pub take-one : (x : Float) (g h i : ℤ) (u v w : Float) (c d : ℕ) → TakeGives x g u h v c → TakeGives x g u i w d → (c ≡ d) × (h ≡ i) × (v ≡ w)
 take-one x g h i u v w c d m n =
-    let e = coded-one (Answer x) (takenOne g u) (one c h v) (one d i w) (one-answer x) m n in
-    (ap (λ (o : One). o .code) e, ap (λ (o : One). o .grid) e, ap (λ (o : One). o .floor) e)
+    let e = coded-beside (Answer x) (takenOne g u) (lent h v) (lent i w) c d (one-answer x) m n in
+    (e .0, ap (λ (l : Lent). l .grid) (e .1), ap (λ (l : Lent). l .floor) (e .1))
 
 sharp-export : (xs : List Float) (size : ℕ) → AllSharp (exportChecks xs size)
 unfolding exportChecks
@@ -121,9 +129,9 @@ exported-one xs before a b r s h k =
     let e = finds-one (exportChecks xs (length before)) (sharp-export xs (length before)) r s (h .finds) (k .finds) in
     (e, later-one xs before a b s (subst (λ (q : Checked). Exported xs before a q) e h) k)
 
-pub intake-one : (xs : List Float) (before a b : List ℤ) (c d : ℕ) → Coded (Exported xs before a) checkedCode c → Coded (Exported xs before b) checkedCode d → (c ≡ d) × (a ≡ b)
+pub intake-one : (xs : List Float) (before a b : List ℤ) (c d : ℕ) → IntakeGives xs before a c → IntakeGives xs before b d → (c ≡ d) × (a ≡ b)
 intake-one xs before a b c d = coded-lent (Exported xs before) checkedCode a b c d (exported-one xs before a b)
 
 -- ---- a footprint from a file
-pub obj-one : (file : List ℕ) (k : List ℤ → Piece) (before a b : List ℤ) (c d : ℕ) → Coded (ObjSays file k before a) outlineCode c → Coded (ObjSays file k before b) outlineCode d → (c ≡ d) × (a ≡ b)
+pub obj-one : (file : List ℕ) (k : List ℤ → Piece) (before a b : List ℤ) (c d : ℕ) → ObjGives file k before a c → ObjGives file k before b d → (c ≡ d) × (a ≡ b)
 obj-one file k before a b c d = coded-lent (ObjSays file k before) outlineCode a b c d (obj.obj-one file k before a b)

@@ -26,43 +26,89 @@ pub record Coded {A B : Type 0} (S : A → Type 0) (f : A → B) (c : B) : Type 
   pub says : S answer
   pub code : c ≡ f answer
 
+-- what an answer says to a caller: a value, one that the book remembered, or a refusal
+pub data Meaning : Type 0 where
+  value : ℕ → Meaning
+  remembered : ℕ → Meaning
+  refusal : Refusal → Meaning
+
 -- a refusal: bit 63 is set, bits 48 to 55 have the number, 40 to 47 the block, 16 to 39 a, 0 to 15 b
 unfoldable pub refusalCode : Refusal → ℕ
 refusalCode s = 2 ^ 63 + s .number % 2 ^ 8 * 2 ^ 48 + s .block % 2 ^ 8 * 2 ^ 40 + s .a % 2 ^ 24 * 2 ^ 16 + s .b % 2 ^ 16
 
+-- a value is its own code; bit 32 is set where it is remembered
+abbrev pub codeOf : Meaning → ℕ
+codeOf (value n) = n
+codeOf (remembered n) = 2 ^ 32 + n
+codeOf (refusal s) = refusalCode s
+
+-- ---- what each answer says, and its code
+abbrev pub checkedMeans : Checked → Meaning
+checkedMeans checked.Good = value 0
+checkedMeans (checked.Refused x) = refusal (said x)
+
 abbrev pub checkedCode : Checked → ℕ
-checkedCode checked.Good = 0
-checkedCode (checked.Refused x) = refusalCode (said x)
+checkedCode r = codeOf (checkedMeans r)
+
+abbrev pub placedMeans : Placed → Meaning
+placedMeans placed.Outside = value 0
+placedMeans placed.Inside = value 1
+placedMeans placed.On = value 2
+placedMeans (placed.Refused x) = refusal (said x)
 
 abbrev pub placedCode : Placed → ℕ
-placedCode placed.Outside = 0
-placedCode placed.Inside = 1
-placedCode placed.On = 2
-placedCode (placed.Refused x) = refusalCode (said x)
+placedCode r = codeOf (placedMeans r)
 
 -- as the rules code it
+abbrev pub verdictMeans : Verdict → Meaning
+verdictMeans verdict.Clear = value NONE
+verdictMeans (verdict.Mark m) = value m
+verdictMeans (verdict.Refused x) = refusal (said x)
+
 abbrev pub verdictCode : Verdict → ℕ
-verdictCode verdict.Clear = NONE
-verdictCode (verdict.Mark m) = m
-verdictCode (verdict.Refused x) = refusalCode (said x)
+verdictCode r = codeOf (verdictMeans r)
 
 -- the piece count
+abbrev pub headerMeans : HeaderRead → Meaning
+headerMeans (header.Count n) = value n
+headerMeans (header.NoHeader x) = refusal (said x)
+
 abbrev pub headerCode : HeaderRead → ℕ
-headerCode (header.Count n) = n
-headerCode (header.NoHeader x) = refusalCode (said x)
+headerCode r = codeOf (headerMeans r)
 
 -- the piece count, or a refusal with its block
-abbrev pub countedCode : Counted → ℕ
-countedCode (counted.Count n) = n
-countedCode (counted.Refused x b) = refusalCode (saidIn x b)
+abbrev pub countedMeans : Counted → Meaning
+countedMeans (counted.Count n) = value n
+countedMeans (counted.Refused x b) = refusal (saidIn x b)
 
--- the code of an entry, with bit 32 set where it is remembered
+abbrev pub countedCode : Counted → ℕ
+countedCode r = codeOf (countedMeans r)
+
+-- the code of an entry
+abbrev pub askedMeans : Asked → Meaning
+askedMeans (asked.Remembered c) = remembered c
+askedMeans (asked.Worked c) = value c
+askedMeans (asked.Refused x) = refusal (said x)
+
 abbrev pub askedCode : Asked → ℕ
-askedCode (asked.Remembered c) = 2 ^ 32 + c
-askedCode (asked.Worked c) = c
-askedCode (asked.Refused x) = refusalCode (said x)
+askedCode r = codeOf (askedMeans r)
 
 -- the corner count
+abbrev pub outlineMeans : Outline → Meaning
+outlineMeans (outline.Corners n) = value n
+outlineMeans (outline.Refused x) = refusal (said x)
+
 abbrev pub outlineCode : Outline → ℕ
-outlineCode (outline.Corners n) = n
-outlineCode (outline.Refused x) = refusalCode (said x)
+outlineCode r = codeOf (outlineMeans r)
+
+-- ---- calls that lend numbers for what was found
+-- what is said, and what the caller lent, afterwards
+pub record Out (C L : Type 0) : Type 0 where
+  pub says : C
+  pub after : L
+
+abbrev pub out : {C L : Type 0} → C → L → Out C L
+out c l = record { says = c; after = l }
+
+abbrev pub coded : {L : Type 0} → Out Meaning L → Out ℕ L
+coded o = out (codeOf (o .says)) (o .after)

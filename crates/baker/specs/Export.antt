@@ -12,22 +12,22 @@ use Rattle.intake.specs.declared.Corner.{Corner}
 use Rattle.intake.specs.declared.Taken.{Taken}
 use Rattle.intake.specs.declared.Taken.the-variants.{Grid, OffGrid, NotNumber, Beyond}
 use Rattle.intake.specs.Footprint.{cornerAt, intakeChecks, Later}
+use Rattle.baker.specs.Coded.{Meaning, value, Out, out}
 
--- a code, and what the two lent numbers are afterwards
-pub record One : Type 0 where
-  pub code : ℕ
+-- the two numbers that are lent
+pub record Lent : Type 0 where
   pub grid : ℤ
   pub floor : Float
 
-abbrev pub one : ℕ → ℤ → Float → One
-one c g f = record { code = c; grid = g; floor = f }
+abbrev pub lent : ℤ → Float → Lent
+lent g f = record { grid = g; floor = f }
 
 -- 0 and the grid number; 1 and the grid value below; 2 not a number; 3 out of reach. What is not named stays.
-abbrev pub takenOne : ℤ → Float → Taken → One
-takenOne g f (Grid k) = one 0 k f
-takenOne g f (OffGrid w) = one 1 g w
-takenOne g f NotNumber = one 2 g f
-takenOne g f Beyond = one 3 g f
+abbrev pub takenOne : ℤ → Float → Taken → Out Meaning Lent
+takenOne g f (Grid k) = out (value 0) (lent k f)
+takenOne g f (OffGrid w) = out (value 1) (lent g w)
+takenOne g f NotNumber = out (value 2) (lent g f)
+takenOne g f Beyond = out (value 3) (lent g f)
 
 -- the corners of an export x, y, x, y ..
 abbrev pub corners : List Float → List Corner

@@ -20,44 +20,36 @@ use Rattle.room.specs.Step.{pieceRead}
 use Rattle.room.specs.declared.Step.{Step}
 use Rattle.room.specs.declared.Found as room
 use Rattle.room.specs.declared.Found.the-variants as found
-use Rattle.baker.specs.Coded.{refusalCode}
-
--- a code, and what the lent list holds afterwards
-pub record Out : Type 0 where
-  pub code : ℕ
-  pub list : List ℤ
-
-abbrev pub out : ℕ → List ℤ → Out
-out c l = record { code = c; list = l }
+use Rattle.baker.specs.Coded.{Meaning, value, refusal, Out, out}
 
 -- a refusal, and the list as it was
-abbrev pub kept : List ℤ → Refusal → Out
-kept before s = out (refusalCode s) before
+abbrev pub kept : List ℤ → Refusal → Out Meaning (List ℤ)
+kept before s = out (refusal s) before
 
 -- numbers before what stands past them; a list that is shorter than it must be is refused with 10
-abbrev pub listed : ℕ → List ℤ → ℕ → List ℤ → Out
-listed least before c l = cond (leb least (length before)) (out c (fronted l before)) (kept before (refuse 10 0 0))
+abbrev pub listed : ℕ → List ℤ → ℕ → List ℤ → Out Meaning (List ℤ)
+listed least before n l = cond (leb least (length before)) (out (value n) (fronted l before)) (kept before (refuse 10 0 0))
 
 -- x, y, z, the velocity and T
-abbrev pub runListed : List ℤ → RunRead → Out
+abbrev pub runListed : List ℤ → RunRead → Out Meaning (List ℤ)
 runListed before (Found r) = listed 7 before 0 (runNumbers (runOf r))
 runListed before (NoRun x) = kept before (said x)
 
 -- the corner count; bottom, top, the velocity and the corners
-abbrev pub pieceFound : List ℤ → PieceRead → Checked → Out
+abbrev pub pieceFound : List ℤ → PieceRead → Checked → Out Meaning (List ℤ)
 pieceFound before r Good = listed 133 before (r .count) (pieceNumbers (pieceOf (r .band) (take (2 * r .count) (r .corners))))
 pieceFound before r (Refused x) = kept before (said x)
 
-abbrev pub pieceListed : List ℤ → PieceRead → Out
+abbrev pub pieceListed : List ℤ → PieceRead → Out Meaning (List ℤ)
 pieceListed before r = pieceFound before r (r .found)
 
 -- a step of a reader: a piece that was read; 0 for the end, which needs no list
-abbrev pub stepFound : List ℤ → Step → room.Found → Out
+abbrev pub stepFound : List ℤ → Step → room.Found → Out Meaning (List ℤ)
 stepFound before s found.Piece = pieceListed before (pieceRead s)
-stepFound before s found.End = out 0 before
+stepFound before s found.End = out (value 0) before
 stepFound before s (found.Refused x b) = kept before (saidIn x b)
 
-abbrev pub stepListed : List ℤ → Step → Out
+abbrev pub stepListed : List ℤ → Step → Out Meaning (List ℤ)
 stepListed before s = stepFound before s (s .found)
 
 -- as many corners as a footprint has stand in the array

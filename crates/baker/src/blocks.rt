@@ -8,22 +8,18 @@ use crate::list::put_piece;
 use crate::list::put_run;
 use block::RunRead;
 ghost use Rattle.rules.specs.Reach.{run, piece};
-ghost use Rattle.block.specs.Layout.{headerBlock, runBlock, pieceBlock};
-ghost use Rattle.refusal.specs.Said.{Writes};
-ghost use Rattle.block.specs.Reading.{headerAsked, runAsked, pieceAsked, HeaderSays, RunSays, PieceSays};
-ghost use Rattle.baker.specs.Coded.{Coded, checkedCode, headerCode};
-ghost use Rattle.baker.specs.Listed.{out, runListed, pieceListed};
+ghost use Rattle.baker.specs.Calls.{WriteHeaderGives, ReadHeaderGives, WriteRunGives, ReadRunGives, WritePieceGives, ReadPieceGives};
 
 #[no_mangle]
 pub extern "C" fn baker_write_header(pieces: u32, block: &mut [u8]) -> u64
-    ensures { λ r. ⌜ Coded (Writes (headerAsked (now (block .entry)) pieces) (headerBlock pieces) (now (block .entry)) (now (block .exit))) checkedCode r ⌝ }
+    ensures { λ r. ⌜ WriteHeaderGives pieces (now (block .entry)) (now (block .exit)) r ⌝ }
 {
     checked(block::write_header(pieces, block))
 }
 
 #[no_mangle]
 pub extern "C" fn baker_read_header(block: &[u8]) -> u64
-    ensures { λ r. ⌜ Coded (HeaderSays (now (block .entry))) headerCode r ⌝ }
+    ensures { λ r. ⌜ ReadHeaderGives (now (block .entry)) r ⌝ }
 {
     header(block::read_header(block))
 }
@@ -39,7 +35,7 @@ pub extern "C" fn baker_write_run(
     ticks: u32,
     block: &mut [u8],
 ) -> u64
-    ensures { λ r. ⌜ Coded (Writes (runAsked (now (block .entry)) (run x y z vx vy vz ticks)) (runBlock (run x y z vx vy vz ticks)) (now (block .entry)) (now (block .exit))) checkedCode r ⌝ }
+    ensures { λ r. ⌜ WriteRunGives (run x y z vx vy vz ticks) (now (block .entry)) (now (block .exit)) r ⌝ }
 {
     let run = run_of(x, y, z, vx, vy, vz, ticks);
     checked(block::write_run(run, block))
@@ -47,7 +43,7 @@ pub extern "C" fn baker_write_run(
 
 #[no_mangle]
 pub extern "C" fn baker_read_run(block: &[u8], numbers: &mut [i32]) -> u64
-    ensures { λ r. ⌜ Coded (RunSays (now (block .entry))) (runListed (now (numbers .entry))) (out r (now (numbers .exit))) ⌝ }
+    ensures { λ r. ⌜ ReadRunGives (now (block .entry)) (now (numbers .entry)) (now (numbers .exit)) r ⌝ }
 {
     match block::read_run(block) {
         RunRead::NoRun(x) => refusal(x),
@@ -65,7 +61,7 @@ pub extern "C" fn baker_write_piece(
     corners: &[i32],
     block: &mut [u8],
 ) -> u64
-    ensures { λ r. ⌜ Coded (Writes (pieceAsked (now (block .entry)) (piece bottom top vx vy vz (now (corners .entry)))) (pieceBlock (piece bottom top vx vy vz (now (corners .entry)))) (now (block .entry)) (now (block .exit))) checkedCode r ⌝ }
+    ensures { λ r. ⌜ WritePieceGives (piece bottom top vx vy vz (now (corners .entry))) (now (block .entry)) (now (block .exit)) r ⌝ }
 {
     let band = band_of(bottom, top, vx, vy, vz);
     checked(block::write_piece(band, corners, block))
@@ -73,7 +69,7 @@ pub extern "C" fn baker_write_piece(
 
 #[no_mangle]
 pub extern "C" fn baker_read_piece(block: &[u8], numbers: &mut [i32]) -> u64
-    ensures { λ r. ⌜ Coded (PieceSays (now (block .entry))) (pieceListed (now (numbers .entry))) (out r (now (numbers .exit))) ⌝ }
+    ensures { λ r. ⌜ ReadPieceGives (now (block .entry)) (now (numbers .entry)) (now (numbers .exit)) r ⌝ }
 {
     let read = block::read_piece(block);
     put_piece(read, numbers)

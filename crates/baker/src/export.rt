@@ -6,13 +6,12 @@ use refusal::Checked;
 use refusal::Refusal;
 ghost use Prim.Native.Nat.{_*_, _≤_};
 ghost use lib.ListN.{length};
-ghost use Rattle.intake.specs.Number.{Answer};
-ghost use Rattle.baker.specs.Coded.{Coded, checkedCode};
-ghost use Rattle.baker.specs.Export.{one, takenOne, Exported, Paired};
+ghost use Rattle.baker.specs.Export.{Exported, Paired};
+ghost use Rattle.baker.specs.Calls.{TakeGives, IntakeGives};
 
 #[no_mangle]
 pub extern "C" fn baker_take(x: f32, grid: &mut i32, floor: &mut f32) -> u64
-    ensures { λ r. ⌜ Coded (Answer x) (takenOne (now (grid .entry)) (now (floor .entry))) (one r (now (grid .exit)) (now (floor .exit))) ⌝ }
+    ensures { λ r. ⌜ TakeGives x (now (grid .entry)) (now (floor .entry)) (now (grid .exit)) (now (floor .exit)) r ⌝ }
 {
     match intake::take(x) {
         Taken::Grid(k) => {
@@ -61,7 +60,7 @@ fn export(numbers: &[f32], list: &mut [i32]) -> Checked
 
 #[no_mangle]
 pub extern "C" fn baker_intake(numbers: &[f32], list: &mut [i32]) -> u64
-    ensures { λ r. ⌜ Coded (Exported (now (numbers .entry)) (now (list .entry)) (now (list .exit))) checkedCode r ⌝ }
+    ensures { λ r. ⌜ IntakeGives (now (numbers .entry)) (now (list .entry)) (now (list .exit)) r ⌝ }
 {
     checked(export(numbers, list))
 }

@@ -2,8 +2,7 @@
 use crate::code::outline;
 use crate::given::band_of;
 ghost use Rattle.rules.specs.Reach.{piece};
-ghost use Rattle.obj.specs.File.{ObjSays};
-ghost use Rattle.baker.specs.Coded.{Coded, outlineCode};
+ghost use Rattle.baker.specs.Calls.{ObjGives};
 
 #[no_mangle]
 pub extern "C" fn baker_obj(
@@ -15,7 +14,7 @@ pub extern "C" fn baker_obj(
     vz: i32,
     list: &mut [i32],
 ) -> u64
-    ensures { λ r. ⌜ Coded (ObjSays (now (file .entry)) (piece bottom top vx vy vz) (now (list .entry)) (now (list .exit))) outlineCode r ⌝ }
+    ensures { λ r. ⌜ ObjGives (now (file .entry)) (piece bottom top vx vy vz) (now (list .entry)) (now (list .exit)) r ⌝ }
 {
     let band = band_of(bottom, top, vx, vy, vz);
     outline(obj::footprint(file, band, list))

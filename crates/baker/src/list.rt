@@ -9,11 +9,12 @@ use refusal::Refusal;
 ghost use mathlib.Core.Path.{_≡_};
 ghost use Prim.Native.Nat.{_≤_};
 ghost use Rattle.block.specs.declared.RunRead.the-variants.{Found};
-ghost use Rattle.baker.specs.Listed.{out, runListed, pieceListed, Holds};
+ghost use Rattle.baker.specs.Coded.{out, coded};
+ghost use Rattle.baker.specs.Listed.{runListed, pieceListed, Holds};
 
 pub(crate) fn put_run(run: Run, list: &mut [i32]) -> u64
     requires { ⌜ run .ticks ≤ 4096 ⌝ }
-    ensures { λ r. ⌜ out r (now (list .exit)) ≡ runListed (now (list .entry)) (Found run) ⌝ }
+    ensures { λ r. ⌜ out r (now (list .exit)) ≡ coded (runListed (now (list .entry)) (Found run)) ⌝ }
 {
     let front = [
         run.x,
@@ -29,7 +30,7 @@ pub(crate) fn put_run(run: Run, list: &mut [i32]) -> u64
 
 pub(crate) fn put_piece(read: PieceRead, list: &mut [i32]) -> u64
     requires { ⌜ Holds read ⌝ }
-    ensures { λ r. ⌜ out r (now (list .exit)) ≡ pieceListed (now (list .entry)) read ⌝ }
+    ensures { λ r. ⌜ out r (now (list .exit)) ≡ coded (pieceListed (now (list .entry)) read) ⌝ }
 {
     let found = read.found;
     if let Checked::Refused(x) = found {

@@ -5,11 +5,8 @@ use crate::code::verdict;
 use crate::given::band_of;
 use crate::given::run_of;
 ghost use Rattle.rules.specs.Reach.{run, piece};
-ghost use Rattle.rules.specs.Good.{runChecks, pieceChecks};
-ghost use Rattle.refusal.specs.Said.{Finds};
-ghost use Rattle.piece.specs.Place.{pt, Lies};
-ghost use Rattle.piece.specs.Tells.{Tells};
-ghost use Rattle.baker.specs.Coded.{Coded, checkedCode, placedCode, verdictCode};
+ghost use Rattle.piece.specs.Place.{pt};
+ghost use Rattle.baker.specs.Calls.{CheckRunGives, CheckPieceGives, PlaceGives, VerdictGives};
 
 #[no_mangle]
 pub extern "C" fn baker_check_run(
@@ -21,7 +18,7 @@ pub extern "C" fn baker_check_run(
     vz: i32,
     ticks: u32,
 ) -> u64
-    ensures { λ r. ⌜ Coded (Finds (runChecks (run x y z vx vy vz ticks))) checkedCode r ⌝ }
+    ensures { λ r. ⌜ CheckRunGives (run x y z vx vy vz ticks) r ⌝ }
 {
     let run = run_of(x, y, z, vx, vy, vz, ticks);
     checked(piece::check_run(run))
@@ -36,7 +33,7 @@ pub extern "C" fn baker_check_piece(
     vz: i32,
     corners: &[i32],
 ) -> u64
-    ensures { λ r. ⌜ Coded (Finds (pieceChecks (piece bottom top vx vy vz (now (corners .entry))))) checkedCode r ⌝ }
+    ensures { λ r. ⌜ CheckPieceGives (piece bottom top vx vy vz (now (corners .entry))) r ⌝ }
 {
     let band = band_of(bottom, top, vx, vy, vz);
     checked(piece::check_piece(band, corners))
@@ -44,7 +41,7 @@ pub extern "C" fn baker_check_piece(
 
 #[no_mangle]
 pub extern "C" fn baker_place(x: i32, y: i32, corners: &[i32]) -> u64
-    ensures { λ r. ⌜ Coded (Lies (pt x y) (now (corners .entry))) placedCode r ⌝ }
+    ensures { λ r. ⌜ PlaceGives (pt x y) (now (corners .entry)) r ⌝ }
 {
     placed(piece::place(x, y, corners))
 }
@@ -65,7 +62,7 @@ pub extern "C" fn baker_verdict(
     uz: i32,
     corners: &[i32],
 ) -> u64
-    ensures { λ r. ⌜ Coded (Tells (run x y z vx vy vz ticks) (piece bottom top ux uy uz (now (corners .entry)))) verdictCode r ⌝ }
+    ensures { λ r. ⌜ VerdictGives (run x y z vx vy vz ticks) (piece bottom top ux uy uz (now (corners .entry))) r ⌝ }
 {
     let run = run_of(x, y, z, vx, vy, vz, ticks);
     let band = band_of(bottom, top, ux, uy, uz);

@@ -9,15 +9,11 @@ use block::PieceRead;
 use refusal::Checked;
 use room::Found;
 ghost use Rattle.rules.specs.Reach.{run, piece};
-ghost use Rattle.room.specs.Step.{StepSays};
-ghost use Rattle.room.specs.Verdicts.{VerdictsSay};
-ghost use Rattle.book.specs.Ask.{AskSays};
-ghost use Rattle.baker.specs.Coded.{Coded, countedCode, askedCode};
-ghost use Rattle.baker.specs.Listed.{out, stepListed};
+ghost use Rattle.baker.specs.Calls.{RoomPieceGives, RoomVerdictsGives, AskGives};
 
 #[no_mangle]
 pub extern "C" fn baker_room_piece(image: &[u8], place: usize, numbers: &mut [i32]) -> u64
-    ensures { λ r. ⌜ Coded (StepSays (now (image .entry)) place) (stepListed (now (numbers .entry))) (out r (now (numbers .exit))) ⌝ }
+    ensures { λ r. ⌜ RoomPieceGives (now (image .entry)) place (now (numbers .entry)) (now (numbers .exit)) r ⌝ }
 {
     let step = room::piece_at(image, place);
     let found = step.found;
@@ -50,7 +46,7 @@ pub extern "C" fn baker_room_verdicts(
     image: &[u8],
     list: &mut [u32],
 ) -> u64
-    ensures { λ r. ⌜ Coded (VerdictsSay (run x y z vx vy vz ticks) (now (image .entry)) (now (list .entry)) (now (list .exit))) countedCode r ⌝ }
+    ensures { λ r. ⌜ RoomVerdictsGives (run x y z vx vy vz ticks) (now (image .entry)) (now (list .entry)) (now (list .exit)) r ⌝ }
 {
     let run = run_of(x, y, z, vx, vy, vz, ticks);
     counted(room::verdicts(run, image, list))
@@ -73,7 +69,7 @@ pub extern "C" fn baker_ask(
     uz: i32,
     corners: &[i32],
 ) -> u64
-    ensures { λ r. ⌜ Coded (AskSays (now (book .entry)) (now (book .exit)) (run x y z vx vy vz ticks) (piece bottom top ux uy uz (now (corners .entry)))) askedCode r ⌝ }
+    ensures { λ r. ⌜ AskGives (run x y z vx vy vz ticks) (piece bottom top ux uy uz (now (corners .entry))) (now (book .entry)) (now (book .exit)) r ⌝ }
 {
     let run = run_of(x, y, z, vx, vy, vz, ticks);
     let band = band_of(bottom, top, ux, uy, uz);

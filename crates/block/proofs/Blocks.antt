@@ -5,22 +5,22 @@ use Prim.Native.Nat.{ℕ, suc, _+_, _*_, _-_, _≤_, _<_}
 use native.Mathlib.Omega.{arith}
 use lib.ListN.{length, take, drop}
 use lib.Seq.{getD-take, getD-drop}
-use Rattle.block.specs.Layout.{byte, blockAt}
+use Rattle.block.specs.Layout.{blockSize, byte, blockAt}
 use Rattle.block.proofs.Mid.{part-length}
 
 -- from 512·i to 512·i + 512, as code lends it
-pub nth-size : (i : ℕ) → 512 * i + 512 - 512 * i ≡ 512
+pub nth-size : (i : ℕ) → blockSize * i + blockSize - blockSize * i ≡ blockSize
 nth-size i = omega arith
 
 module _ (l : List ℕ) (i : ℕ) where
-  pub nth-length : 512 * suc i ≤ length l → length (blockAt l i) ≡ 512
+  pub nth-length : blockSize * suc i ≤ length l → length (blockAt l i) ≡ blockSize
   unfolding blockAt
-  nth-length h = part-length l (512 * i) 512 (omega arith)
+  nth-length h = part-length l (blockSize * i) blockSize (omega arith)
 
-  pub nth-byte : (j : ℕ) → j < 512 → byte (blockAt l i) j ≡ byte l (512 * i + j)
+  pub nth-byte : (j : ℕ) → j < blockSize → byte (blockAt l i) j ≡ byte l (blockSize * i + j)
   unfolding blockAt
-  nth-byte j h = getD-take 512 (drop (512 * i) l) j 0 h ∙ getD-drop (512 * i) l j 0
+  nth-byte j h = getD-take blockSize (drop (blockSize * i) l) j 0 h ∙ getD-drop (blockSize * i) l j 0
 
-  pub nth-part : take (512 * i + 512 - 512 * i) (drop (512 * i) l) ≡ blockAt l i
+  pub nth-part : take (blockSize * i + blockSize - blockSize * i) (drop (blockSize * i) l) ≡ blockAt l i
   unfolding blockAt
-  nth-part = ap (λ n. take n (drop (512 * i) l)) (nth-size i)
+  nth-part = ap (λ n. take n (drop (blockSize * i) l)) (nth-size i)

@@ -7,7 +7,7 @@ use native.Mathlib.Omega.{arith}
 use lib.ListN.{length, getD, set, replicate, length-append, length-set, length-replicate, List·getD-append}
 use lib.Seq.{getD-append-add, getD-set-same, getD-set-other, ext-getD}
 use Rattle.whole.proofs.Order.{ℕ-or}
-use Rattle.block.specs.Layout.{byte, sum, plainSum, weighedSum, filled, blockOf}
+use Rattle.block.specs.Layout.{blockSize, bodySize, byte, sum, plainSum, weighedSum, filled, blockOf}
 use Rattle.block.specs.Reading.{Sealed}
 pub use Rattle.block.specs.Scan.{Alike}
 
@@ -73,92 +73,92 @@ weighed-below l = omega arith
 
 pub plain-same : (l m : List ℕ) → Alike l m → plainSum l ≡ plainSum m
 unfolding plainSum
-plain-same l m h = ap (λ n. n % 255) (sum-same (byte l) (byte m) 510 h)
+plain-same l m h = ap (λ n. n % 255) (sum-same (byte l) (byte m) bodySize h)
 
 pub weighed-same : (l m : List ℕ) → Alike l m → weighedSum l ≡ weighedSum m
 unfolding weighedSum
 weighed-same l m h =
-    ap (λ n. n % 255) (sum-same (λ i. (510 - i) * byte l i) (λ i. (510 - i) * byte m i) 510 (λ i k. ap (λ n. (510 - i) * n) (h i k)))
+    ap (λ n. n % 255) (sum-same (λ i. (bodySize - i) * byte l i) (λ i. (bodySize - i) * byte m i) bodySize (λ i k. ap (λ n. (bodySize - i) * n) (h i k)))
 
 -- ---- a block
-module _ (front : List ℕ) (few : length front ≤ 510) where
-  long : length (filled 510 front) ≡ 510
-  long = filled-length 510 front few
+module _ (front : List ℕ) (few : length front ≤ bodySize) where
+  long : length (filled bodySize front) ≡ bodySize
+  long = filled-length bodySize front few
 
-  pub block-length : length (blockOf front) ≡ 512
+  pub block-length : length (blockOf front) ≡ blockSize
   unfolding blockOf
-  block-length = omega (arith, long, length-append (filled 510 front) (plainSum (filled 510 front) ∷ weighedSum (filled 510 front) ∷ []))
+  block-length = omega (arith, long, length-append (filled bodySize front) (plainSum (filled bodySize front) ∷ weighedSum (filled bodySize front) ∷ []))
 
-  pub block-at : (i : ℕ) → i < 510 → byte (blockOf front) i ≡ byte front i
+  pub block-at : (i : ℕ) → i < bodySize → byte (blockOf front) i ≡ byte front i
   unfolding blockOf
   block-at i h =
-      List·getD-append (filled 510 front) (plainSum (filled 510 front) ∷ weighedSum (filled 510 front) ∷ []) 0 i (rw long h) ∙ filled-at 510 front i
+      List·getD-append (filled bodySize front) (plainSum (filled bodySize front) ∷ weighedSum (filled bodySize front) ∷ []) 0 i (rw long h) ∙ filled-at bodySize front i
 
-  alike-filled : Alike (filled 510 front) (blockOf front)
-  alike-filled i h = filled-at 510 front i ∙ sym (block-at i h)
+  alike-filled : Alike (filled bodySize front) (blockOf front)
+  alike-filled i h = filled-at bodySize front i ∙ sym (block-at i h)
 
-  past : (n : ℕ) → byte (blockOf front) (510 + n) ≡ byte (plainSum (filled 510 front) ∷ weighedSum (filled 510 front) ∷ []) n
+  past : (n : ℕ) → byte (blockOf front) (bodySize + n) ≡ byte (plainSum (filled bodySize front) ∷ weighedSum (filled bodySize front) ∷ []) n
   unfolding blockOf
   past n =
-      let e = getD-append-add (filled 510 front) (plainSum (filled 510 front) ∷ weighedSum (filled 510 front) ∷ []) n 0 in
+      let e = getD-append-add (filled bodySize front) (plainSum (filled bodySize front) ∷ weighedSum (filled bodySize front) ∷ []) n 0 in
       rw long at e
 
   pub block-sealed : Sealed (blockOf front)
   block-sealed = record {
-    first = past 0 ∙ plain-same (filled 510 front) (blockOf front) alike-filled;
-    second = past 1 ∙ weighed-same (filled 510 front) (blockOf front) alike-filled;
+    first = past 0 ∙ plain-same (filled bodySize front) (blockOf front) alike-filled;
+    second = past 1 ∙ weighed-same (filled bodySize front) (blockOf front) alike-filled;
   }
 
 -- a list of 512 bytes with a right check is the block of what its first bytes are
-last-two : (i : ℕ) → 510 ≤ i → i < 512 → (i ≡ 510) ⊎ (i ≡ 511)
-last-two i h k = ⊎-elim (λ (l : i ≤ 510). inl (omega arith)) (λ (l : 510 < i). inr (omega arith)) (ℕ-or i 510)
+last-two : (i : ℕ) → bodySize ≤ i → i < blockSize → (i ≡ bodySize) ⊎ (i ≡ (bodySize + 1))
+last-two i h k = ⊎-elim (λ (l : i ≤ bodySize). inl (omega arith)) (λ (l : bodySize < i). inr (omega arith)) (ℕ-or i bodySize)
 
-pub sealed-is : (l m : List ℕ) → length l ≡ 512 → length m ≡ 512 → Sealed l → Sealed m → Alike l m → l ≡ m
+pub sealed-is : (l m : List ℕ) → length l ≡ blockSize → length m ≡ blockSize → Sealed l → Sealed m → Alike l m → l ≡ m
 sealed-is l m n o s t h =
     ext-getD 0 l m (n ∙ sym o)
     (λ i k. ⊎-elim
-    (λ (g : 510 ≤ i). ⊎-elim
-    (λ (e : i ≡ 510). rw e (s .first ∙ plain-same l m h ∙ sym (t .first)))
-    (λ (e : i ≡ 511). rw e (s .second ∙ weighed-same l m h ∙ sym (t .second)))
+    (λ (g : bodySize ≤ i). ⊎-elim
+    (λ (e : i ≡ bodySize). rw e (s .first ∙ plain-same l m h ∙ sym (t .first)))
+    (λ (e : i ≡ (bodySize + 1)). rw e (s .second ∙ weighed-same l m h ∙ sym (t .second)))
     (last-two i g (omega arith)))
-    (λ (g : i < 510). h i g)
-    (ℕ-or 510 i))
+    (λ (g : i < bodySize). h i g)
+    (ℕ-or bodySize i))
 
-pub block-is : (l front : List ℕ) → length front ≤ 510 → length l ≡ 512 → Sealed l → Alike l front → l ≡ blockOf front
+pub block-is : (l front : List ℕ) → length front ≤ bodySize → length l ≡ blockSize → Sealed l → Alike l front → l ≡ blockOf front
 block-is l front few n s h =
     sealed-is l (blockOf front) n (block-length front few) s (block-sealed front few) (λ i k. h i k ∙ sym (block-at front few i k))
 
-pub block-same : (f g : List ℕ) → length f ≤ 510 → length g ≤ 510 → Alike f g → blockOf f ≡ blockOf g
+pub block-same : (f g : List ℕ) → length f ≤ bodySize → length g ≤ bodySize → Alike f g → blockOf f ≡ blockOf g
 block-same f g k m h = block-is (blockOf f) g m (block-length f k) (block-sealed f k) (λ i l. block-at f k i l ∙ h i l)
 
 -- ---- the check, put in its place
-module _ (m : List ℕ) (long : length m ≡ 512) where
+module _ (m : List ℕ) (long : length m ≡ blockSize) where
   sealing : List ℕ
-  sealing = set (set m 510 (plainSum m)) 511 (weighedSum m)
+  sealing = set (set m bodySize (plainSum m)) (bodySize + 1) (weighedSum m)
 
-  sealing-length : length sealing ≡ 512
+  sealing-length : length sealing ≡ blockSize
   unfolding sealing
-  sealing-length = length-set (set m 510 (plainSum m)) 511 (weighedSum m) ∙ (length-set m 510 (plainSum m) ∙ long)
+  sealing-length = length-set (set m bodySize (plainSum m)) (bodySize + 1) (weighedSum m) ∙ (length-set m bodySize (plainSum m) ∙ long)
 
-  sealing-at : (i : ℕ) → i < 510 → byte sealing i ≡ byte m i
+  sealing-at : (i : ℕ) → i < bodySize → byte sealing i ≡ byte m i
   unfolding sealing
   sealing-at i h =
-      getD-set-other (set m 510 (plainSum m)) 511 i (weighedSum m) 0 (λ e. omega arith)
-      ∙ getD-set-other m 510 i (plainSum m) 0 (λ e. omega arith)
+      getD-set-other (set m bodySize (plainSum m)) (bodySize + 1) i (weighedSum m) 0 (λ e. omega arith)
+      ∙ getD-set-other m bodySize i (plainSum m) 0 (λ e. omega arith)
 
   sealing-sealed : Sealed sealing
   unfolding sealing
   sealing-sealed =
-      let n = set m 510 (plainSum m) in let same : Alike m sealing = λ i h. sym (sealing-at i h) in
+      let n = set m bodySize (plainSum m) in let same : Alike m sealing = λ i h. sym (sealing-at i h) in
       record {
         first =
-            getD-set-other n 511 510 (weighedSum m) 0 (λ e. omega arith)
-            ∙ (getD-set-same m 510 (plainSum m) 0 (omega arith) ∙ plain-same m sealing same);
+            getD-set-other n (bodySize + 1) bodySize (weighedSum m) 0 (λ e. omega arith)
+            ∙ (getD-set-same m bodySize (plainSum m) 0 (omega arith) ∙ plain-same m sealing same);
         second =
-            getD-set-same n 511 (weighedSum m) 0 (rw (length-set m 510 (plainSum m)) (omega arith))
+            getD-set-same n (bodySize + 1) (weighedSum m) 0 (rw (length-set m bodySize (plainSum m)) (omega arith))
             ∙ weighed-same m sealing same;
       }
 
-  pub sealing-is : (front : List ℕ) → length front ≤ 510 → Alike m front → set (set m 510 (plainSum m)) 511 (weighedSum m) ≡ blockOf front
+  pub sealing-is : (front : List ℕ) → length front ≤ bodySize → Alike m front → set (set m bodySize (plainSum m)) (bodySize + 1) (weighedSum m) ≡ blockOf front
   unfolding sealing
   sealing-is front few h = block-is sealing front few sealing-length sealing-sealed (λ i k. sealing-at i k ∙ h i k)

@@ -10,7 +10,7 @@ use Rattle.rules.specs.Reach.{Corners, Pieces}
 use Rattle.refusal.specs.Said.{Finds}
 use Rattle.refusal.proofs.Finds.{finds-after}
 use Rattle.refusal.specs.declared.Checked.{Checked}
-use Rattle.block.specs.Layout.{byte, blockOf}
+use Rattle.block.specs.Layout.{bodySize, edition, pieceKind, runKind, byte, blockOf}
 use Rattle.block.specs.Reading.{NotZero, Misspelt, unnamedCheck, headerBytes, runBytes, pieceBytes}
 use Rattle.block.specs.Scan.{Clean}
 use Rattle.block.proofs.Bytes.{block-at}
@@ -24,23 +24,23 @@ stable a b f =
     (ℕ-or a b)
 
 -- no byte that must be zero is not
-pub clean-from : (l : List ℕ) (from : ℕ) → ((j : ℕ) → j < 510 - from → NotZero l from j → ⊥) → Clean l from 510
+pub clean-from : (l : List ℕ) (from : ℕ) → ((j : ℕ) → j < bodySize - from → NotZero l from j → ⊥) → Clean l from bodySize
 clean-from l from f i h k = let e : from + (i - from) ≡ i = omega arith in ap (byte l) (sym e) ∙ stable (byte l (from + (i - from))) 0 (f (i - from) (omega arith))
 
-pub header-last : (l : List ℕ) (r : Checked) → ((j : ℕ) → j < 4 → Misspelt l j → ⊥) → byte l 4 ≡ 1 → Pieces (byte l 5) → Finds (unnamedCheck l 6 ∷ []) r → Finds (headerBytes l) r
+pub header-last : (l : List ℕ) (r : Checked) → ((j : ℕ) → j < 4 → Misspelt l j → ⊥) → byte l 4 ≡ edition → Pieces (byte l 5) → Finds (unnamedCheck l 6 ∷ []) r → Finds (headerBytes l) r
 unfolding headerBytes
 header-last l r a b c f = finds-after _ _ r a (finds-after _ _ r b (finds-after _ _ r c f))
 
 -- past its first bytes a block is zero
-pub unnamed-front : (front : List ℕ) (from : ℕ) → length front ≤ 510 → length front ≤ from → unnamedCheck (blockOf front) from .passes
+pub unnamed-front : (front : List ℕ) (from : ℕ) → length front ≤ bodySize → length front ≤ from → unnamedCheck (blockOf front) from .passes
 unnamed-front front from few h j k b =
     let l : length front ≤ from + j = omega arith in
     b (block-at front few (from + j) (omega arith) ∙ List·getD-eq-default front 0 l)
 
-pub run-last : (l : List ℕ) (r : Checked) → byte l 0 ≡ 2 → byte l 1 ≡ 0 → Finds (unnamedCheck l 16 ∷ []) r → Finds (runBytes l) r
+pub run-last : (l : List ℕ) (r : Checked) → byte l 0 ≡ runKind → byte l 1 ≡ 0 → Finds (unnamedCheck l 16 ∷ []) r → Finds (runBytes l) r
 unfolding runBytes
 run-last l r a b f = finds-after _ _ r a (finds-after _ _ r b f)
 
-pub piece-last : (l : List ℕ) (r : Checked) → byte l 0 ≡ 1 → Corners (byte l 1) → Finds (unnamedCheck l (12 + 4 * byte l 1) ∷ []) r → Finds (pieceBytes l) r
+pub piece-last : (l : List ℕ) (r : Checked) → byte l 0 ≡ pieceKind → Corners (byte l 1) → Finds (unnamedCheck l (12 + 4 * byte l 1) ∷ []) r → Finds (pieceBytes l) r
 unfolding pieceBytes
 piece-last l r a b f = finds-after _ _ r a (finds-after _ _ r b f)

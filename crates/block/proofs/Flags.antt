@@ -6,8 +6,8 @@ use native.Mathlib.Omega.{arith}
 use lib.Dec.{eqb}
 use borrow.Author.Tests.{eqb-true, eqb-false}
 use Rattle.whole.proofs.Order.{ℕ-or}
-use Rattle.piece.specs.Decide.{Decides}
-use Rattle.piece.proofs.Decide.{decide-by}
+use Rattle.whole.specs.Decide.{Decides}
+use Rattle.whole.proofs.Decide.{decide-by}
 
 -- P holds from here up to there
 abbrev pub Run : (ℕ → Type 0) → ℕ → ℕ → Type 0

@@ -4,7 +4,7 @@ use mathlib.Core.List.{List}
 use Prim.Native.Nat.{ℕ, zero, suc, _+_, _*_, _-_, _%_}
 use native.Mathlib.Nat.{add-mul}
 use native.Mathlib.Omega.{arith}
-use Rattle.block.specs.Layout.{byte, sum, plainSum, weighedSum}
+use Rattle.block.specs.Layout.{bodySize, byte, sum, plainSum, weighedSum}
 use Rattle.block.proofs.Bytes.{sum-same}
 
 -- after n bytes: the first sum takes each byte, and the second the first sum
@@ -38,7 +38,11 @@ module _ (l : List ℕ) where
       (λ i h. let e : suc n - i ≡ n - i + 1 = omega arith in ap (λ m. m * byte l i) e ∙ add-mul (n - i) 1 (byte l i) ∙ omega arith)
       ∙ sum-plus (λ i. (n - i) * byte l i) (byte l) n
 
-  last : (n : ℕ) → sum (λ i. (suc n - i) * byte l i) n ≡ sum (λ i. (n - i) * byte l i) n + sum (byte l) n → (suc n - n) * byte l n ≡ 1 * byte l n → sum (λ i. (n - i) * byte l i) n + sum (byte l) (suc n) ≡ sum (λ i. (suc n - i) * byte l i) (suc n)
+  -- the sum of the first n bytes, each weighing how far it is before m
+  abbrev tilted : ℕ → ℕ → ℕ
+  tilted m n = sum (λ i. (m - i) * byte l i) n
+
+  last : (n : ℕ) → tilted (suc n) n ≡ tilted n n + sum (byte l) n → (suc n - n) * byte l n ≡ 1 * byte l n → tilted n n + sum (byte l) (suc n) ≡ tilted (suc n) (suc n)
   unfolding sum
   last n h e = omega arith
 
@@ -52,6 +56,6 @@ module _ (l : List ℕ) where
       ∙ mod-add (sum (λ i. (n - i) * byte l i) n) (sum (byte l) (suc n))
       ∙ ap (λ m. m % 255) (last n (heavier n) (ap (λ m. m * byte l n) e))
 
-  pub fletcher : (plain l 510 ≡ plainSum l) × (weighed l 510 ≡ weighedSum l)
+  pub fletcher : (plain l bodySize ≡ plainSum l) × (weighed l bodySize ≡ weighedSum l)
   unfolding plainSum weighedSum
-  fletcher = (plain-is 510, weighed-is 510)
+  fletcher = (plain-is bodySize, weighed-is bodySize)

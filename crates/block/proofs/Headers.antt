@@ -3,19 +3,18 @@ use mathlib.Core.Path.{_≡_, refl, sym, ap, _∙_}
 use mathlib.Core.List.{List, [], _∷_, _++_}
 use Prim.Native.Nat.{ℕ, zero, suc, _+_, _≤_, _<_}
 use native.Mathlib.Omega.{arith}
-use lib.ListN.{length, getD, List·getD-append}
+use lib.ListN.{length, getD, set, take, drop, length-drop, List·getD-append}
+use Rattle.whole.specs.Front.{Front}
+use Rattle.whole.proofs.Front.{front-is}
 use Rattle.rules.specs.Reach.{Pieces}
 use Rattle.rules.specs.Refusal.{Passes}
 use Rattle.rules.proofs.Checks.{passes-append, passes-left, passes-right}
-use Rattle.block.specs.Layout.{byte, name, headerBlock}
+use Rattle.block.specs.Layout.{blockSize, bodySize, name, edition, byte, headerFront, headerBlock}
 use Rattle.block.specs.Reading.{Sealed, blockChecks, headerBytes, headerChecks}
 use Rattle.block.proofs.Bytes.{Alike, block-length, block-at, block-sealed, block-is}
 use Rattle.block.proofs.Face.{stable, unnamed-front}
 
-abbrev front : ℕ → List ℕ
-front n = name ++ (1 ∷ n ∷ [])
-
-few : (n : ℕ) → length (front n) ≤ 510
+few : (n : ℕ) → length (headerFront n) ≤ bodySize
 few n = omega arith
 
 -- ---- what passes
@@ -28,7 +27,7 @@ module _ (l : List ℕ) (p : Passes (headerChecks l)) where
   unfolding headerChecks
   rest = passes-right (blockChecks l) (headerBytes l) p
 
-  pub header-length : length l ≡ 512
+  pub header-length : length l ≡ blockSize
   unfolding blockChecks
   header-length = whole .0
 
@@ -40,7 +39,7 @@ module _ (l : List ℕ) (p : Passes (headerChecks l)) where
   unfolding headerBytes
   letter j h = stable _ _ (rest .0 j h)
 
-  alike : Alike l (front (byte l 5))
+  alike : Alike l (headerFront (byte l 5))
   unfolding headerBytes
   alike zero h = letter 0 (omega arith)
   alike (suc zero) h = letter 1 (omega arith)
@@ -58,22 +57,32 @@ module _ (l : List ℕ) (p : Passes (headerChecks l)) where
 
   pub header-is : l ≡ headerBlock (byte l 5)
   unfolding headerBlock
-  header-is = block-is l (front (byte l 5)) (few (byte l 5)) header-length sealed alike
+  header-is = block-is l (headerFront (byte l 5)) (few (byte l 5)) header-length sealed alike
 
 -- ---- what a good count makes
 pub header-passes : (n : ℕ) → Pieces n → Passes (headerChecks (headerBlock n))
 unfolding headerChecks headerBlock blockChecks headerBytes
 header-passes n h =
     passes-append (blockChecks (headerBlock n)) (headerBytes (headerBlock n))
-    (block-length (front n) (few n), (block-sealed (front n) (few n), tt)) (
-      λ j k b. b (block-at (front n) (few n) j (omega arith) ∙ List·getD-append name (1 ∷ n ∷ []) 0 j k),
+    (block-length (headerFront n) (few n), (block-sealed (headerFront n) (few n), tt)) (
+      λ j k b. b (block-at (headerFront n) (few n) j (omega arith) ∙ List·getD-append name (edition ∷ n ∷ []) 0 j k),
       (
-        block-at (front n) (few n) 4 (omega arith),
-        (rw (block-at (front n) (few n) 5 (omega arith)) h, (unnamed-front (front n) 6 (few n) (omega arith), tt)),
+        block-at (headerFront n) (few n) 4 (omega arith),
+        (rw (block-at (headerFront n) (few n) 5 (omega arith)) h, (unnamed-front (headerFront n) 6 (few n) (omega arith), tt)),
       ),
     )
 
 -- byte 5 tells the count
 pub header-one : (m n : ℕ) → headerBlock m ≡ headerBlock n → m ≡ n
 unfolding headerBlock
-header-one m n e = sym (block-at (front m) (few m) 5 (omega arith)) ∙ ap (λ l. byte l 5) e ∙ block-at (front n) (few n) 5 (omega arith)
+header-one m n e = sym (block-at (headerFront m) (few m) 5 (omega arith)) ∙ ap (λ l. byte l 5) e ∙ block-at (headerFront n) (few n) 5 (omega arith)
+
+-- ---- as it is laid: the name, and two bytes after it
+two-more : (l : List ℕ) (n : ℕ) → 2 ≤ length l → take 6 (set (set (name ++ l) 4 edition) 5 n) ≡ headerFront n
+two-more [] n h = absurd (omega arith)
+two-more (a ∷ []) n h = absurd (omega arith)
+two-more (a ∷ b ∷ l) n h = refl
+
+pub header-laid : (l m : List ℕ) (n : ℕ) → length l ≡ blockSize → Front 0 name 4 l m → take 6 (set (set m 4 edition) 5 n) ≡ headerFront n
+header-laid l m n h f =
+    ap (λ m. take 6 (set (set m 4 edition) 5 n)) (front-is 0 name l (omega arith) m f) ∙ two-more (drop 4 l) n (omega (arith, length-drop 4 l))

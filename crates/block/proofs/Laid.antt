@@ -11,12 +11,12 @@ use mir.Syntax.{w8}
 use mir.Val.{Fits}
 use Rattle.whole.proofs.Order.{le-trans}
 use Rattle.rules.specs.Reach.{Between, Reach, Speed}
-use Rattle.block.specs.Layout.{byte, word, words, blockOf}
+use Rattle.block.specs.Layout.{blockSize, bodySize, byte, word, words, blockOf}
 use Rattle.block.specs.Reading.{Sealed, Half}
 use Rattle.block.proofs.Bytes.{Alike, block-at, block-is}
 use Rattle.block.proofs.Words.{halves, words-length, front-low, front-high, front-low-at, front-high-at}
 
-pub few : (a b : ℕ) (zs : List ℤ) → length zs ≤ 254 → length (a ∷ b ∷ words zs) ≤ 510
+pub few : (a b : ℕ) (zs : List ℤ) → length zs ≤ 254 → length (a ∷ b ∷ words zs) ≤ bodySize
 few a b zs h = omega (arith, words-length zs)
 
 -- number j of zs stands at byte 2 + 2·j of l
@@ -24,13 +24,13 @@ abbrev pub Numbers : List ℕ → List ℤ → Type 0
 Numbers l zs = (j : ℕ) → j < 254 → word (getD zs j (pos 0)) ≡ byte l (2 + 2 * j) + 256 * byte l (3 + 2 * j)
 
 module _ (l : List ℕ) (bytes : (i : ℕ) → Fits w8 (byte l i)) (a b : ℕ) (zs : List ℤ) (n : Numbers l zs) where
-  low-is : (i : ℕ) → 2 ≤ i → i < 510 → i % 2 ≡ 0 → byte l i ≡ byte (a ∷ b ∷ words zs) i
+  low-is : (i : ℕ) → 2 ≤ i → i < bodySize → i % 2 ≡ 0 → byte l i ≡ byte (a ∷ b ∷ words zs) i
   low-is i h k e =
       let j = (i - 2) / 2 in let f : 2 + 2 * j ≡ i = omega arith in
       let g : byte l (2 + 2 * j) ≡ word (getD zs j (pos 0)) % 256 = omega (arith, n j (omega arith), bytes (2 + 2 * j)) in
       (rw f at g) ∙ sym (front-low a b zs i h e)
 
-  high-is : (i : ℕ) → 2 ≤ i → i < 510 → (i % 2 ≡ 0 → ⊥) → byte l i ≡ byte (a ∷ b ∷ words zs) i
+  high-is : (i : ℕ) → 2 ≤ i → i < bodySize → (i % 2 ≡ 0 → ⊥) → byte l i ≡ byte (a ∷ b ∷ words zs) i
   high-is i h k e =
       let j = (i - 2) / 2 in let f : 3 + 2 * j ≡ i = omega arith in
       let g : byte l (3 + 2 * j) ≡ word (getD zs j (pos 0)) / 256 = omega (arith, n j (omega arith), bytes (2 + 2 * j)) in
@@ -42,7 +42,7 @@ module _ (l : List ℕ) (bytes : (i : ℕ) → Fits w8 (byte l i)) (a b : ℕ) (
   alike e f (suc (suc i)) h =
       ⊎-elim (λ g. low-is (suc (suc i)) (omega arith) h g) (λ g. high-is (suc (suc i)) (omega arith) h g) (halves (suc (suc i)))
 
-  pub laid-is : length zs ≤ 254 → length l ≡ 512 → Sealed l → byte l 0 ≡ a → byte l 1 ≡ b → l ≡ blockOf (a ∷ b ∷ words zs)
+  pub laid-is : length zs ≤ 254 → length l ≡ blockSize → Sealed l → byte l 0 ≡ a → byte l 1 ≡ b → l ≡ blockOf (a ∷ b ∷ words zs)
   laid-is h k s e f = block-is l (a ∷ b ∷ words zs) (few a b zs h) k s (alike e f)
 
 -- the numbers of a block

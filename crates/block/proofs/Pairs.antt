@@ -18,11 +18,18 @@ cleared l from i h f k r g = ⊎-elim (λ (q : i ≤ k). let e : k ≡ i = omega
 
 -- number j's two bytes, after those before it
 module _ (zs : List ℤ) (l : List ℕ) (j : ℕ) (h : 2 * suc j ≤ length l) where
-  pub paired : ((k : ℕ) → k < 2 * j → byte l k ≡ byte (words zs) k) → (k : ℕ) → k < 2 * (j + 1) → byte (set (set l (2 * j) (word (getD zs j (pos 0)) % 256)) (2 * j + 1) (word (getD zs j (pos 0)) / 256)) k ≡ byte (words zs) k
+  -- the low byte in its place, and then the high one
+  abbrev lowered : List ℕ
+  lowered = set l (2 * j) (word (getD zs j (pos 0)) % 256)
+
+  abbrev raised : List ℕ
+  raised = set lowered (2 * j + 1) (word (getD zs j (pos 0)) / 256)
+
+  pub paired : ((k : ℕ) → k < 2 * j → byte l k ≡ byte (words zs) k) → (k : ℕ) → k < 2 * (j + 1) → byte raised k ≡ byte (words zs) k
   paired f k g = two k (omega arith)
     where
-      one : (k : ℕ) → k < 2 * j + 1 → byte (set l (2 * j) (word (getD zs j (pos 0)) % 256)) k ≡ byte (words zs) k
+      one : (k : ℕ) → k < 2 * j + 1 → byte lowered k ≡ byte (words zs) k
       one = stored 0 l (words zs) (2 * j) _ (omega arith) f (sym (low-at zs j))
 
-      two : (k : ℕ) → k < 2 * j + 1 + 1 → byte (set (set l (2 * j) (word (getD zs j (pos 0)) % 256)) (2 * j + 1) (word (getD zs j (pos 0)) / 256)) k ≡ byte (words zs) k
-      two = stored 0 (set l (2 * j) (word (getD zs j (pos 0)) % 256)) (words zs) (2 * j + 1) _ (simp length-set (omega arith)) one (let e : 2 * j + 1 ≡ suc (2 * j) = omega arith in rw e (sym (high-at zs j)))
+      two : (k : ℕ) → k < 2 * j + 1 + 1 → byte raised k ≡ byte (words zs) k
+      two = stored 0 lowered (words zs) (2 * j + 1) _ (simp length-set (omega arith)) one (let e : 2 * j + 1 ≡ suc (2 * j) = omega arith in rw e (sym (high-at zs j)))

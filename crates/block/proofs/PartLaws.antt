@@ -8,7 +8,7 @@ use lib.ListN.{length, take, drop, List·getD-append, List·getD-eq-default, len
 use lib.Seq.{ext-getD, length-take-le, getD-take, getD-drop, getD-append-add}
 use Rattle.whole.specs.Front.{Front}
 use Rattle.whole.proofs.Order.{ℕ-or}
-use Rattle.block.specs.Layout.{byte, sum, plainSum, weighedSum, filled, blockOf}
+use Rattle.block.specs.Layout.{blockSize, bodySize, byte, sum, plainSum, weighedSum, filled, blockOf}
 use Rattle.block.specs.Reading.{SealedAs, PartsFit}
 use Rattle.block.specs.Scan.{Alike, SumsAt, Clean}
 use Rattle.block.proofs.Bytes.{filled-at, filled-length, sum-same, sum-split, plain-same, weighed-same, block-at, block-sealed, block-is}
@@ -32,7 +32,7 @@ module _ (first last : List ℕ) (at : ℕ) (fit : PartsFit first last at) where
   long : length (filled at first) ≡ at
   long = filled-length at first (fit .begin)
 
-  pub both-few : length both ≤ 510
+  pub both-few : length both ≤ bodySize
   both-few = omega (arith, length-append (filled at first) last, long)
 
   both-first : (i : ℕ) → i < at → byte both i ≡ byte first i
@@ -42,8 +42,8 @@ module _ (first last : List ℕ) (at : ℕ) (fit : PartsFit first last at) where
   both-last j = ap (λ m. byte both (m + j)) (sym long) ∙ getD-append-add (filled at first) last j 0
 
   -- ---- the bytes, as they are laid: zeros, the first part, and the last in its place
-  module _ (z m y : List ℕ) (n : ℕ) (zl : length z ≡ 512) (zs : Clean z 0 510) (b : Front 0 first (length first) z m) (l : (j : ℕ) → j < length last → byte y j ≡ byte last j) where
-    first-is : (i : ℕ) → i < 510 → byte m i ≡ byte first i
+  module _ (z m y : List ℕ) (n : ℕ) (zl : length z ≡ blockSize) (zs : Clean z 0 bodySize) (b : Front 0 first (length first) z m) (l : (j : ℕ) → j < length last → byte y j ≡ byte last j) where
+    first-is : (i : ℕ) → i < bodySize → byte m i ≡ byte first i
     first-is i g =
         ⊎-elim (λ (q : length first ≤ i). b .stays .rest i q ∙ zs i (omega arith) g ∙ sym (List·getD-eq-default first 0 {n = i} q)) (λ (q : i < length first). b .first i q) (ℕ-or (length first) i)
 
@@ -56,21 +56,24 @@ module _ (first last : List ℕ) (at : ℕ) (fit : PartsFit first last at) where
         (⊎-elim
         (λ (p : n ≤ i - at). let c : n + (i - at - n) ≡ i - at = omega arith in
         rw (sym c)
-        (mid-after m y at n s e (i - at - n) ∙ first-is (at + (n + (i - at - n))) (omega arith) ∙ List·getD-eq-default first 0 {n = at + (n + (i - at - n))} (omega arith) ∙ sym (both-last (n + (i - at - n)) ∙ List·getD-eq-default last 0 {n = n + (i - at - n)} (omega arith))))
+        (mid-after m y at n s e (i - at - n)
+        ∙ first-is (at + (n + (i - at - n))) (omega arith)
+        ∙ List·getD-eq-default first 0 {n = at + (n + (i - at - n))} (omega arith)
+        ∙ sym (both-last (n + (i - at - n)) ∙ List·getD-eq-default last 0 {n = n + (i - at - n)} (omega arith))))
         (λ (p : i - at < n). mid-in m y at n s e (i - at) p ∙ l (i - at) (omega arith) ∙ sym (both-last (i - at)))
         (ℕ-or n (i - at))))
         (λ (q : i < at). mid-before m y at n s e i q ∙ first-is i g ∙ sym (both-first i q))
         (ℕ-or at i)
 
   -- ---- the sums, of any weight that zeros do not have
-  sums : (g : ℕ → ℕ → ℕ) → ((i : ℕ) → g i 0 ≡ 0) → sum (λ i. g i (byte both i)) 510 ≡ sum (λ i. g i (byte first i)) (length first) + sum (λ j. g (at + j) (byte last j)) (length last)
+  sums : (g : ℕ → ℕ → ℕ) → ((i : ℕ) → g i 0 ≡ 0) → sum (λ i. g i (byte both i)) bodySize ≡ sum (λ i. g i (byte first i)) (length first) + sum (λ j. g (at + j) (byte last j)) (length last)
   sums g o =
-      let e : 510 ≡ at + (510 - at) = omega arith in
+      let e : bodySize ≡ at + (bodySize - at) = omega arith in
       let p = sum-same (λ i. g i (byte both i)) (λ i. g i (byte first i)) at (λ i q. ap (g i) (both-first i q)) in
       let q = sum-short (λ i. g i (byte first i)) (length first) at (fit .begin) (λ i r s. ap (g i) (List·getD-eq-default first 0 {n = i} r) ∙ o i) in
-      let r = sum-same (λ j. g (at + j) (byte both (at + j))) (λ j. g (at + j) (byte last j)) (510 - at) (λ j s. ap (g (at + j)) (both-last j)) in
-      let s = sum-short (λ j. g (at + j) (byte last j)) (length last) (510 - at) (omega arith) (λ j t u. ap (g (at + j)) (List·getD-eq-default last 0 {n = j} t) ∙ o (at + j)) in
-      ap (sum (λ i. g i (byte both i))) e ∙ sum-split (λ i. g i (byte both i)) at (510 - at) ∙ omega (arith, p, q, r, s)
+      let r = sum-same (λ j. g (at + j) (byte both (at + j))) (λ j. g (at + j) (byte last j)) (bodySize - at) (λ j s. ap (g (at + j)) (both-last j)) in
+      let s = sum-short (λ j. g (at + j) (byte last j)) (length last) (bodySize - at) (omega arith) (λ j t u. ap (g (at + j)) (List·getD-eq-default last 0 {n = j} t) ∙ o (at + j)) in
+      ap (sum (λ i. g i (byte both i))) e ∙ sum-split (λ i. g i (byte both i)) at (bodySize - at) ∙ omega (arith, p, q, r, s)
 
   module _ (p w q v : ℕ) (a : SumsAt first 0 p w) (b : SumsAt last at q v) where
     pub plain-parts : plainSum both ≡ (p + q) % 255
@@ -80,11 +83,13 @@ module _ (first last : List ℕ) (at : ℕ) (fit : PartsFit first last at) where
     pub weighed-parts : weighedSum both ≡ (w + v) % 255
     unfolding weighedSum
     weighed-parts =
-        let o = sum-same (λ i. (510 - i) * byte first i) (λ i. (510 - (0 + i)) * byte first i) (length first) (λ i l. let e : i ≡ 0 + i = omega arith in ap (λ m. (510 - m) * byte first i) e) in
-        ap (λ n. n % 255) (sums (λ i b. (510 - i) * b) (λ i. omega arith) ∙ omega (arith, o, a .weighed-is, b .weighed-is))
+        let o =
+        sum-same (λ i. (bodySize - i) * byte first i) (λ i. (bodySize - (0 + i)) * byte first i) (length first)
+        (λ i l. let e : i ≡ 0 + i = omega arith in ap (λ m. (bodySize - m) * byte first i) e) in
+        ap (λ n. n % 255) (sums (λ i b. (bodySize - i) * b) (λ i. omega arith) ∙ omega (arith, o, a .weighed-is, b .weighed-is))
 
   -- ---- a block that holds both, and one that is made of them
-  module _ (block : List ℕ) (n : length block ≡ 512) where
+  module _ (block : List ℕ) (n : length block ≡ blockSize) where
     size : at + length last - at ≡ length last
     size = omega arith
 
@@ -100,14 +105,18 @@ module _ (first last : List ℕ) (at : ℕ) (fit : PartsFit first last at) where
       pub held-last : take (at + length last - at) (drop at block) ≡ last
       held-last =
           let e = part-length block at (at + length last - at) (omega arith) in
-          ext-getD 0 (take (at + length last - at) (drop at block)) last (e ∙ size) (λ j l. getD-take (at + length last - at) (drop at block) j 0 (omega arith) ∙ getD-drop at block j 0 ∙ g (at + j) (omega arith) ∙ both-last j)
+          ext-getD 0 (take (at + length last - at) (drop at block)) last (e ∙ size)
+          (λ j l. getD-take (at + length last - at) (drop at block) j 0 (omega arith)
+          ∙ getD-drop at block j 0
+          ∙ g (at + j) (omega arith)
+          ∙ both-last j)
 
-      pub held-rest : Clean block (at + length last) 510
+      pub held-rest : Clean block (at + length last) bodySize
       held-rest i l r =
           let d : at + (i - at) ≡ i = omega arith in
           g i r ∙ ap (byte both) (sym d) ∙ both-last (i - at) ∙ List·getD-eq-default last 0 {n = i - at} (omega arith)
 
-    pub held : take (length first) block ≡ first → Clean block (length first) at → take (at + length last - at) (drop at block) ≡ last → Clean block (at + length last) 510 → Alike block both
+    pub held : take (length first) block ≡ first → Clean block (length first) at → take (at + length last - at) (drop at block) ≡ last → Clean block (at + length last) bodySize → Alike block both
     held e z f y i r =
         ⊎-elim
         (λ (q : at ≤ i). let d : at + (i - at) ≡ i = omega arith in
@@ -137,4 +146,7 @@ module _ (first last : List ℕ) (at : ℕ) (fit : PartsFit first last at) where
     pub made-sealed : SealedAs both block
     made-sealed =
         let s = block-sealed both both-few in let g : Alike (blockOf both) both = block-at both both-few in
-        record { first = ap (λ (l : List ℕ). byte l 510) e ∙ s .first ∙ plain-same (blockOf both) both g; second = ap (λ (l : List ℕ). byte l 511) e ∙ s .second ∙ weighed-same (blockOf both) both g }
+        record {
+          first = ap (λ (l : List ℕ). byte l bodySize) e ∙ s .first ∙ plain-same (blockOf both) both g;
+          second = ap (λ (l : List ℕ). byte l (bodySize + 1)) e ∙ s .second ∙ weighed-same (blockOf both) both g;
+        }

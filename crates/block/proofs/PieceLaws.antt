@@ -26,7 +26,7 @@ use Rattle.refusal.specs.declared.Checked.the-variants.{Refused}
 use Rattle.piece.specs.declared.Band.{Band}
 use Rattle.piece.specs.Numbers.{pieceOf}
 use Rattle.block.specs.declared.PieceRead.{PieceRead}
-use Rattle.block.specs.Layout.{byte, word, words, filled, blockOf, pieceNumbers, pieceBody, pieceBlock}
+use Rattle.block.specs.Layout.{blockSize, bodySize, pieceKind, byte, word, words, filled, blockOf, pieceNumbers, pieceBody, pieceBlock}
 use Rattle.block.specs.Reading.{Half, PieceIn, inside, blockChecks, pieceBytes, pieceBlockChecks, Holds, nothing, PieceFound, PieceSays, Word, PieceGood}
 use Rattle.block.specs.Scan.{BandAt, CornersAt}
 use Rattle.block.proofs.Bytes.{repeated, filled-at, filled-length, block-length, block-at, block-sealed, block-same}
@@ -41,9 +41,9 @@ pub sized-most : (l : List ℤ) → Sized l → length l ≤ 128
 sized-most l s = let e = s .even in let c = s .corners .most in omega arith
 
 -- ---- the block without its zeros
-pub piece-block : (k : Piece) → length (k .corners) ≤ 128 → pieceBlock k ≡ blockOf (1 ∷ ring (k .corners) .size ∷ words (pieceNumbers k))
+pub piece-block : (k : Piece) → length (k .corners) ≤ 128 → pieceBlock k ≡ blockOf (pieceKind ∷ ring (k .corners) .size ∷ words (pieceNumbers k))
 unfolding pieceBlock pieceBody
-piece-block k h = block-same (1 ∷ filled 267 body) (1 ∷ body) (omega (arith, filled-length 267 body short)) (omega (arith, words-length (pieceNumbers k))) alike
+piece-block k h = block-same (pieceKind ∷ filled 267 body) (pieceKind ∷ body) (omega (arith, filled-length 267 body short)) (omega (arith, words-length (pieceNumbers k))) alike
   where
     body : List ℕ
     body = ring (k .corners) .size ∷ words (pieceNumbers k)
@@ -51,7 +51,7 @@ piece-block k h = block-same (1 ∷ filled 267 body) (1 ∷ body) (omega (arith,
     short : length (ring (k .corners) .size ∷ words (pieceNumbers k)) ≤ 267
     short = omega (arith, words-length (pieceNumbers k))
 
-    alike : (i : ℕ) → i < 510 → byte (1 ∷ filled 267 (ring (k .corners) .size ∷ words (pieceNumbers k))) i ≡ byte (1 ∷ ring (k .corners) .size ∷ words (pieceNumbers k)) i
+    alike : (i : ℕ) → i < bodySize → byte (pieceKind ∷ filled 267 (ring (k .corners) .size ∷ words (pieceNumbers k))) i ≡ byte (pieceKind ∷ ring (k .corners) .size ∷ words (pieceNumbers k)) i
     alike zero g = refl
     alike (suc i) g = filled-at 267 (ring (k .corners) .size ∷ words (pieceNumbers k)) i
 
@@ -119,10 +119,10 @@ piece-bytes k s = subst (λ l. Passes (blockChecks l ++ pieceBytes l)) (sym (pie
     size = ring (k .corners) .size
 
     f : List ℕ
-    f = 1 ∷ size ∷ words (pieceNumbers k)
+    f = pieceKind ∷ size ∷ words (pieceNumbers k)
 
-    g : length f ≤ 510
-    g = few 1 size (pieceNumbers k) (omega arith)
+    g : length f ≤ bodySize
+    g = few pieceKind size (pieceNumbers k) (omega arith)
 
     count : byte (blockOf f) 1 ≡ size
     count = block-at f g 1 (omega arith)
@@ -176,7 +176,7 @@ module _ (l : List ℕ) (b : Band) (a : List ℤ) (bytes : (i : ℕ) → Fits w8
   long : length (take (2 * byte l 1) a) ≡ 2 * byte l 1
   long = let c = count-good .most in let e = corners .all in length-take-le (2 * byte l 1) a (omega arith)
 
-  zero-at : (j : ℕ) → 12 + 4 * byte l 1 ≤ j → j < 510 → byte l j ≡ 0
+  zero-at : (j : ℕ) → 12 + 4 * byte l 1 ≤ j → j < bodySize → byte l j ≡ 0
   unfolding pieceBytes
   zero-at j h g =
       let e : 12 + 4 * byte l 1 + (j - (12 + 4 * byte l 1)) ≡ j = omega arith in
@@ -230,7 +230,7 @@ module _ (l : List ℕ) (b : Band) (a : List ℤ) (bytes : (i : ℕ) → Fits w8
   same : l ≡ pieceBlock held
   unfolding held blockChecks pieceBytes
   same =
-      laid-is l bytes 1 (ring (take (2 * byte l 1) a) .size) (pieceNumbers held) numbers (let c = count-good .most in omega (arith, long)) (first .0) (first .1 .0) (second .0) (sym size-is)
+      laid-is l bytes pieceKind (ring (take (2 * byte l 1) a) .size) (pieceNumbers held) numbers (let c = count-good .most in omega (arith, long)) (first .0) (first .1 .0) (second .0) (sym size-is)
       ∙ sym (piece-block held (sized-most (take (2 * byte l 1) a) sized))
 
   pub piece-in : PieceIn l (pieceOf b (take (2 * byte l 1) a))
@@ -256,13 +256,13 @@ module _ (l : List ℕ) (b : Band) (a : List ℤ) (bytes : (i : ℕ) → Fits w8
 piece-numbers : (l : List ℕ) (k : Piece) → PieceIn l k → Numbers l (pieceNumbers k)
 piece-numbers l k a =
     let h = sized-most (k .corners) (a .sized) in
-    rw (a .same ∙ piece-block k h) (laid-numbers 1 (ring (k .corners) .size) (pieceNumbers k) (omega arith))
+    rw (a .same ∙ piece-block k h) (laid-numbers pieceKind (ring (k .corners) .size) (pieceNumbers k) (omega arith))
 
 piece-count : (l : List ℕ) (k : Piece) → PieceIn l k → byte l 1 ≡ ring (k .corners) .size
 piece-count l k a =
     let h = sized-most (k .corners) (a .sized) in
     rw (a .same ∙ piece-block k h)
-    (block-at (1 ∷ ring (k .corners) .size ∷ words (pieceNumbers k)) (few 1 (ring (k .corners) .size) (pieceNumbers k) (omega arith)) 1 (omega arith))
+    (block-at (pieceKind ∷ ring (k .corners) .size ∷ words (pieceNumbers k)) (few pieceKind (ring (k .corners) .size) (pieceNumbers k) (omega arith)) 1 (omega arith))
 
 module _ (l : List ℕ) (k m : Piece) (a : PieceIn l k) (b : PieceIn l m) where
   one : (j : ℕ) → j < 254 → getD (pieceNumbers k) j (pos 0) ≡ getD (pieceNumbers m) j (pos 0)
@@ -285,9 +285,13 @@ module _ (l : List ℕ) (k m : Piece) (a : PieceIn l k) (b : PieceIn l m) where
   }
 
 -- ---- as code has it
-pub block-long : (l : List ℕ) → Passes (blockChecks l ++ pieceBytes l) → length l ≡ 512
+pub block-long : (l : List ℕ) → Passes (blockChecks l ++ pieceBytes l) → length l ≡ blockSize
 unfolding blockChecks
 block-long l p = passes-left (blockChecks l) (pieceBytes l) p .0
+
+pub passed-long : (l : List ℕ) → Passes (pieceBlockChecks l) → length l ≡ blockSize
+unfolding pieceBlockChecks blockChecks
+passed-long l p = p .0
 
 pub count-most : (l : List ℕ) → Passes (blockChecks l ++ pieceBytes l) → byte l 1 ≤ 64
 unfolding pieceBytes

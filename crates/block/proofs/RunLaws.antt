@@ -17,7 +17,7 @@ use Rattle.rules.proofs.Reach.{run-known}
 use Rattle.rules.proofs.Checks.{passes-append, passes-left, passes-right}
 use Rattle.piece.specs.declared.Run as plain
 use Rattle.piece.specs.Numbers.{runOf}
-use Rattle.block.specs.Layout.{byte, word, words, runNumbers, runBody, runBlock}
+use Rattle.block.specs.Layout.{runKind, byte, word, words, runNumbers, runBody, runBlock}
 use Rattle.block.specs.Reading.{Half, RunGood, RunIn, inside, blockChecks, runBytes, runBlockChecks, Word}
 use Rattle.block.specs.Scan.{RunAt}
 use Rattle.block.proofs.Bytes.{block-length, block-at, block-sealed}
@@ -89,7 +89,7 @@ module _ (l : List ℕ) (r : plain.Run) (at : RunAt l r) (bytes : (i : ℕ) → 
 
   same : l ≡ runBlock (runOf r)
   unfolding runBlock runBody blockChecks runBytes
-  same = laid-is l bytes 2 0 (runNumbers (runOf r)) numbers (omega arith) (first .0) (first .1 .0) (second .0) (second .1 .0)
+  same = laid-is l bytes runKind 0 (runNumbers (runOf r)) numbers (omega arith) (first .0) (first .1 .0) (second .0) (second .1 .0)
 
   pub run-in : RunIn l (runOf r)
   run-in = record { signed = signed; ticks = omega (arith, at .ticks, bytes 14, bytes 15); same = same }
@@ -101,7 +101,7 @@ good-in r p = record { signed = good-half r p; ticks = let h = good-ticks r p in
 pub run-passes : (r : Run) → Passes (runChecks r) → Passes (runBlockChecks (runBlock r))
 unfolding runBlockChecks runBlock runBody blockChecks runBytes
 run-passes r p =
-    let f : List ℕ = 2 ∷ 0 ∷ words (runNumbers r) in let k = few 2 0 (runNumbers r) (omega arith) in
+    let f : List ℕ = runKind ∷ 0 ∷ words (runNumbers r) in let k = few runKind 0 (runNumbers r) (omega arith) in
     passes-append (blockChecks (runBlock r) ++ runBytes (runBlock r)) (inside (RunIn (runBlock r)) runChecks ∷ [])
     (passes-append (blockChecks (runBlock r)) (runBytes (runBlock r)) (block-length f k, (block-sealed f k, tt))
     (block-at f k 0 (omega arith), (block-at f k 1 (omega arith), (unnamed-front f 16 k (omega arith), tt)))) ((r, good-in r p, p), tt)
@@ -116,7 +116,7 @@ block-passes l r f = subst (λ l. Passes (runBlockChecks l)) (sym (f .same)) (ru
 -- ---- a block holds one run
 run-numbers : (l : List ℕ) (r : Run) → l ≡ runBlock r → Numbers l (runNumbers r)
 unfolding runBlock runBody
-run-numbers l r e = rw e (laid-numbers 2 0 (runNumbers r) (omega arith))
+run-numbers l r e = rw e (laid-numbers runKind 0 (runNumbers r) (omega arith))
 
 module _ (l : List ℕ) (r s : Run) (a : RunIn l r) (b : RunIn l s) where
   bits : (j : ℕ) → j < 254 → word (getD (runNumbers r) j (pos 0)) ≡ word (getD (runNumbers s) j (pos 0))

@@ -8,7 +8,8 @@ use Rattle.rules.specs.Refusal.{Check}
 use Rattle.rules.specs.Good.{runChecks, pieceChecks}
 use Rattle.rules.proofs.Checks.{AllSharp, sharp-demand, sharp-each, sharp-append}
 use Rattle.rules.proofs.Good.{sharp-run, sharp-piece}
-use Rattle.block.specs.Reading.{blockChecks, headerBytes, headerChecks, runBytes, pieceBytes, RunIn, PieceIn, inside, runBlockChecks, pieceBlockChecks, headerAsked, partsAsked, wordsAsked, runAsked, pieceAsked}
+use Rattle.block.specs.Reading.{lengthCheck, blockChecks, headerBytes, headerChecks, runBytes, pieceBytes, RunIn, PieceIn, inside, runBlockChecks, pieceBlockChecks}
+use Rattle.block.specs.Reading.{headerAsked, partsAsked, wordsAsked, runAsked, pieceAsked}
 use Rattle.block.specs.Verdicts.{verdictInChecks}
 use Rattle.block.proofs.Found.{sharp-inside}
 use Rattle.block.proofs.RunLaws.{run-one}
@@ -25,8 +26,9 @@ sharp-header l =
     sharp-append (blockChecks l) (headerBytes l) (sharp-block l) (sharp-each _ _ _, (sharp-demand _ _, (sharp-demand _ _, (sharp-each _ _ _, tt))))
 
 -- a block's bytes, and then what is in it
-sharp-held : {A : Type 0} (l : List ℕ) (bytes : List Check) (In : A → Type 0) (cs : A → List Check) → AllSharp bytes → ((a b : A) → In a → In b → a ≡ b) → ((a : A) → AllSharp (cs a)) → AllSharp ((blockChecks l ++ bytes) ++ (inside In cs ∷ []))
-sharp-held l bytes In cs s one all = sharp-append (blockChecks l ++ bytes) (inside In cs ∷ []) (sharp-append (blockChecks l) bytes (sharp-block l) s) (sharp-inside In cs one all, tt)
+module _ {A : Type 0} (l : List ℕ) (bytes : List Check) (In : A → Type 0) (cs : A → List Check) where
+  sharp-held : AllSharp bytes → ((a b : A) → In a → In b → a ≡ b) → ((a : A) → AllSharp (cs a)) → AllSharp ((blockChecks l ++ bytes) ++ (inside In cs ∷ []))
+  sharp-held s one all = sharp-append (blockChecks l ++ bytes) (inside In cs ∷ []) (sharp-append (blockChecks l) bytes (sharp-block l) s) (sharp-inside In cs one all, tt)
 
 pub sharp-run-block : (l : List ℕ) → AllSharp (runBlockChecks l)
 unfolding runBlockChecks runBytes
@@ -38,7 +40,7 @@ sharp-piece-block l = sharp-held l (pieceBytes l) (PieceIn l) pieceChecks (sharp
 
 pub sharp-verdict-in : (r : Run) (l : List ℕ) → AllSharp (verdictInChecks r l)
 unfolding verdictInChecks
-sharp-verdict-in r l = sharp-append (runChecks r) (pieceBlockChecks l) (sharp-run r) (sharp-piece-block l)
+sharp-verdict-in r l = sharp-append (lengthCheck l ∷ runChecks r) (pieceBlockChecks l) (sharp-demand _ _, sharp-run r) (sharp-piece-block l)
 
 -- ---- writing
 pub sharp-parts-asked : (l first last : List ℕ) (at : ℕ) → AllSharp (partsAsked l first last at)

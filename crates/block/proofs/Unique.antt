@@ -1,7 +1,7 @@
 -- Two outcomes that both meet a public contract, answer and later bytes, are equal. Assumes nothing.
 use mathlib.Core.Path.{_≡_, refl, sym, ap, subst, _∙_}
 use mathlib.Core.Bool.{Bool, true, false}
-use mathlib.Core.List.{List, _++_}
+use mathlib.Core.List.{List, _∷_}
 use Prim.Native.Nat.{ℕ}
 use lib.IntN.{ℤ}
 use native.Mathlib.Omega.{arith}
@@ -12,12 +12,12 @@ use Rattle.rules.specs.Good.{runChecks}
 use Rattle.rules.specs.Verdict.{Answer, clear, blocked, Verdict}
 use Rattle.rules.proofs.Verdict.{one-verdict}
 use Rattle.rules.proofs.Checks.{never-both, passes-append}
-use Rattle.refusal.specs.Said.{said, Writes}
+use Rattle.refusal.specs.Said.{said}
 use Rattle.refusal.proofs.Unique.{refused-one, writes-one}
 use Rattle.refusal.specs.declared.Refusal.{Refusal}
 use Rattle.refusal.specs.declared.Checked.{Checked}
 use Rattle.refusal.specs.declared.Checked.the-variants.{Good, Refused}
-use Rattle.piece.specs.Decide.{Decides}
+use Rattle.whole.specs.Decide.{Decides}
 use Rattle.piece.specs.declared.Run.{Run}
 use Rattle.piece.specs.declared.motion.Verdict as told
 use Rattle.piece.specs.declared.motion.Verdict.the-variants.{Clear, Mark, Refused as Unjudged}
@@ -27,8 +27,10 @@ use Rattle.block.specs.declared.HeaderRead.the-variants.{Count, NoHeader
 use Rattle.block.specs.declared.RunRead.{RunRead}
 use Rattle.block.specs.declared.RunRead.the-variants.{Found, NoRun}
 use Rattle.block.specs.declared.PieceRead.{PieceRead}
-use Rattle.block.specs.Layout.{words, headerBlock, runBlock, pieceBlock, blockOf, filled}
-use Rattle.block.specs.Reading.{headerChecks, runBlockChecks, pieceBlockChecks, headerAsked, partsAsked, PartsIn, wordsAsked, runAsked, pieceAsked, HeaderSays, RunSays, Holds, PieceFound, PieceSays}
+use Rattle.block.specs.Layout.{words, headerBlock, runBlock, pieceBlock}
+use Rattle.block.specs.Reading.{lengthCheck, headerChecks, runBlockChecks, pieceBlockChecks, headerAsked, partsAsked, PartsIn, wordsAsked, runAsked, pieceAsked}
+use Rattle.block.specs.Reading.{HeaderSays, RunSays, Holds, PieceFound, PieceSays}
+use Rattle.block.specs.Reading.{partsBlock, WriteHeaderSays, WriteRunSays, WritePieceSays, WritePartsSays, WriteWordsSays}
 use Rattle.block.specs.Verdicts.{VerdictOn, verdictInChecks, VerdictInSays}
 use Rattle.block.proofs.Headers.{header-passes, header-one}
 use Rattle.block.proofs.RunLaws as runs
@@ -36,8 +38,9 @@ use Rattle.block.proofs.PieceLaws as pieces
 use Rattle.block.proofs.Sharp.{sharp-header, sharp-run-block, sharp-piece-block, sharp-verdict-in, sharp-parts-asked, sharp-words-asked, sharp-header-asked, sharp-run-asked, sharp-piece-asked}
 
 -- ---- writers
-pub write-parts-one : (first last : List ℕ) (at : ℕ) (before a b : List ℕ) (r s : Checked) → Writes (partsAsked before first last at) (blockOf (filled at first ++ last)) before a r → Writes (partsAsked before first last at) (blockOf (filled at first ++ last)) before b s → (r ≡ s) × (a ≡ b)
-write-parts-one first last at before a b r s = writes-one (partsAsked before first last at) (sharp-parts-asked before first last at) (blockOf (filled at first ++ last)) before a b r s
+pub write-parts-one : (first last : List ℕ) (at : ℕ) (before a b : List ℕ) (r s : Checked) → WritePartsSays first last at before a r → WritePartsSays first last at before b s → (r ≡ s) × (a ≡ b)
+write-parts-one first last at before a b r s =
+    writes-one (partsAsked before first last at) (sharp-parts-asked before first last at) (partsBlock first last at) before a b r s
 
 -- a test has one answer
 pub is-parts-one : (first last : List ℕ) (at : ℕ) (l : List ℕ) (r s : Bool) → Decides (PartsIn first last at l) r → Decides (PartsIn first last at l) s → r ≡ s
@@ -46,16 +49,16 @@ is-parts-one first last at l true false f g = absurd (g f)
 is-parts-one first last at l false true f g = absurd (f g)
 is-parts-one first last at l false false f g = refl
 
-pub write-words-one : (numbers : List ℤ) (before a b : List ℕ) (r s : Checked) → Writes (wordsAsked before numbers) (words numbers) before a r → Writes (wordsAsked before numbers) (words numbers) before b s → (r ≡ s) × (a ≡ b)
+pub write-words-one : (numbers : List ℤ) (before a b : List ℕ) (r s : Checked) → WriteWordsSays numbers before a r → WriteWordsSays numbers before b s → (r ≡ s) × (a ≡ b)
 write-words-one numbers before a b r s = writes-one (wordsAsked before numbers) (sharp-words-asked before numbers) (words numbers) before a b r s
 
-pub write-header-one : (n : ℕ) (before a b : List ℕ) (r s : Checked) → Writes (headerAsked before n) (headerBlock n) before a r → Writes (headerAsked before n) (headerBlock n) before b s → (r ≡ s) × (a ≡ b)
+pub write-header-one : (n : ℕ) (before a b : List ℕ) (r s : Checked) → WriteHeaderSays n before a r → WriteHeaderSays n before b s → (r ≡ s) × (a ≡ b)
 write-header-one n before a b r s = writes-one (headerAsked before n) (sharp-header-asked before n) (headerBlock n) before a b r s
 
-pub write-run-one : (run : Run) (before a b : List ℕ) (r s : Checked) → Writes (runAsked before (runOf run)) (runBlock (runOf run)) before a r → Writes (runAsked before (runOf run)) (runBlock (runOf run)) before b s → (r ≡ s) × (a ≡ b)
+pub write-run-one : (run : Run) (before a b : List ℕ) (r s : Checked) → WriteRunSays (runOf run) before a r → WriteRunSays (runOf run) before b s → (r ≡ s) × (a ≡ b)
 write-run-one run before a b r s = writes-one (runAsked before (runOf run)) (sharp-run-asked before (runOf run)) (runBlock (runOf run)) before a b r s
 
-pub write-piece-one : (k : Piece) (before a b : List ℕ) (r s : Checked) → Writes (pieceAsked before k) (pieceBlock k) before a r → Writes (pieceAsked before k) (pieceBlock k) before b s → (r ≡ s) × (a ≡ b)
+pub write-piece-one : (k : Piece) (before a b : List ℕ) (r s : Checked) → WritePieceSays k before a r → WritePieceSays k before b s → (r ≡ s) × (a ≡ b)
 write-piece-one k before a b r s = writes-one (pieceAsked before k) (sharp-piece-asked before k) (pieceBlock k) before a b r s
 
 -- ---- read_header
@@ -124,8 +127,9 @@ module _ (r : rules.Run) (l : List ℕ) where
   clash : (a : Answer) (x : Refusal) → VerdictOn r l a → Fault (verdictInChecks r l) (said x) → ⊥
   unfolding verdictInChecks
   clash a x f g =
+      let p = pieces.block-passes l (f .piece) (f .same) (f .good) in
       never-both (verdictInChecks r l) (sharp-verdict-in r l) (said x)
-      (passes-append (runChecks r) (pieceBlockChecks l) (f .run) (pieces.block-passes l (f .piece) (f .same) (f .good))) g
+      (passes-append (lengthCheck l ∷ runChecks r) (pieceBlockChecks l) (pieces.passed-long l p, f .run) p) g
 
   pub verdict-in-one : (v w : told.Verdict) → VerdictInSays r l v → VerdictInSays r l w → v ≡ w
   verdict-in-one Clear Clear f g = refl

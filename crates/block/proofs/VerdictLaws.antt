@@ -1,43 +1,70 @@
 -- A verdict on the piece in a block: which answers the run, the bytes and the piece's numbers give. Assumes nothing.
-use mathlib.Core.List.{List, _++_}
+use mathlib.Core.Path.{_≡_, refl}
+use mathlib.Core.Logic.{inl, inr, ⊎-elim}
+use mathlib.Core.List.{List, [], _∷_, _++_}
 use Prim.Native.Nat.{ℕ}
+use lib.ListN.{length}
 use Rattle.rules.specs.Reach.{Run, Piece}
-use Rattle.rules.specs.Refusal.{Passes, Fault}
+use Rattle.rules.specs.Refusal.{Refusal, Check, Passes, Fault}
 use Rattle.rules.specs.Good.{runChecks, pieceChecks}
 use Rattle.rules.specs.Verdict as rules
 use Rattle.rules.specs.Verdict.{Answer, clear, blocked, verdictChecks}
-use Rattle.rules.proofs.Checks.{passes-right, fault-left, fault-right, fault-past}
+use Rattle.rules.proofs.Checks.{sharp-demand, passes-left, passes-right, fault-left, fault-right, fault-past}
 use Rattle.rules.proofs.Good.{sharp-run}
 use Rattle.refusal.specs.Said.{said}
-use Rattle.refusal.specs.declared.Refusal.{Refusal}
+use Rattle.refusal.specs.declared.Refusal as enum
+use Rattle.refusal.specs.declared.Refusal.the-variants.{Length}
 use Rattle.piece.specs.declared.motion.Verdict.{Verdict}
 use Rattle.piece.specs.declared.motion.Verdict.the-variants.{Clear, Mark, Refused}
 use Rattle.piece.specs.Tells.{Tells}
-use Rattle.block.specs.Reading.{blockChecks, pieceBytes, pieceBlockChecks, PieceIn}
+use Rattle.block.specs.Layout.{blockSize}
+use Rattle.block.specs.Reading.{lengthCheck, blockChecks, pieceBytes, pieceBlockChecks, PieceIn}
 use Rattle.block.specs.Verdicts.{VerdictOn, verdictInChecks, VerdictInSays}
-use Rattle.block.proofs.PieceLaws.{bytes-fault, inside-fault}
+use Rattle.block.proofs.PieceLaws.{block-long, bytes-fault, inside-fault}
+
+-- a fault of the second checks, told as one of others
+fault-then : (cs ds es : List Check) (x : Refusal) → (Fault ds x → Fault es x) → Fault (cs ++ ds) x → Fault (cs ++ es) x
+fault-then [] ds es x g f = g f
+fault-then (c ∷ cs) ds es x g f = ⊎-elim (λ h. inl h) (λ h. inr (h .0, fault-then cs ds es x g (h .1))) f
 
 module _ (r : Run) (l : List ℕ) where
-  pub run-refused : (x : Refusal) → Fault (runChecks r) (said x) → VerdictInSays r l (Refused x)
+  pub length-refused : (length l ≡ blockSize → ⊥) → VerdictInSays r l (Refused Length)
   unfolding verdictInChecks
-  run-refused x f = fault-left (runChecks r) (pieceBlockChecks l) (said x) f
+  length-refused f = inl (f, refl)
 
-  module _ (good : Passes (runChecks r)) where
-    block-refused : (x : Refusal) → Fault (pieceBlockChecks l) (said x) → VerdictInSays r l (Refused x)
-    unfolding verdictInChecks
-    block-refused x f = fault-right (runChecks r) (pieceBlockChecks l) (said x) good f
+  module _ (long : length l ≡ blockSize) where
+    -- length and run
+    first : List Check
+    first = lengthCheck l ∷ runChecks r
 
-    pub bytes-refused : (x : Refusal) → Fault (blockChecks l ++ pieceBytes l) (said x) → VerdictInSays r l (Refused x)
-    bytes-refused x f = block-refused x (bytes-fault l (said x) f)
+    pub run-refused : (x : enum.Refusal) → Fault (runChecks r) (said x) → VerdictInSays r l (Refused x)
+    unfolding verdictInChecks first
+    run-refused x f = fault-left first (pieceBlockChecks l) (said x) (inr (long, f))
 
-    -- the piece that the bytes hold was judged
-    module _ (bytes : Passes (blockChecks l ++ pieceBytes l)) (k : Piece) (held : PieceIn l k) where
-      judged : (a : Answer) → Passes (verdictChecks r k) × rules.Verdict r k a → VerdictOn r l a
-      unfolding verdictChecks
-      judged a h = record { run = good; piece = k; same = held .same; good = passes-right (runChecks r) (pieceChecks k) (h .0); verdict = h .1 }
+    pub bytes-refused : (x : enum.Refusal) → Passes (runChecks r) → Fault (blockChecks l ++ pieceBytes l) (said x) → VerdictInSays r l (Refused x)
+    unfolding verdictInChecks first
+    bytes-refused x good f = fault-right first (pieceBlockChecks l) (said x) (long, good) (bytes-fault l (said x) f)
 
-      pub block-says : (v : Verdict) → Tells r k v → VerdictInSays r l v
-      unfolding verdictChecks
-      block-says Clear h = judged clear h
-      block-says (Mark m) h = judged (blocked m) h
-      block-says (Refused x) h = block-refused x (inside-fault l k (said x) bytes held (fault-past (runChecks r) (pieceChecks k) (sharp-run r) (said x) good h))
+    -- where the run is good, a refusal is the block's
+    pub block-refused : (x : enum.Refusal) → Passes (runChecks r) → VerdictInSays r l (Refused x) → Fault (pieceBlockChecks l) (said x)
+    unfolding verdictInChecks first
+    block-refused x good f = fault-past first (pieceBlockChecks l) (sharp-demand _ _, sharp-run r) (said x) (long, good) f
+
+  -- the piece that the bytes hold was judged
+  module _ (bytes : Passes (blockChecks l ++ pieceBytes l)) (k : Piece) (held : PieceIn l k) where
+    judged : (a : Answer) → Passes (verdictChecks r k) × rules.Verdict r k a → VerdictOn r l a
+    unfolding verdictChecks
+    judged a h = record {
+      run = passes-left (runChecks r) (pieceChecks k) (h .0);
+      piece = k;
+      same = held .same;
+      good = passes-right (runChecks r) (pieceChecks k) (h .0);
+      verdict = h .1;
+    }
+
+    pub block-says : (v : Verdict) → Tells r k v → VerdictInSays r l v
+    unfolding verdictChecks verdictInChecks
+    block-says Clear h = judged clear h
+    block-says (Mark m) h = judged (blocked m) h
+    block-says (Refused x) h =
+        inr (block-long l bytes, fault-then (runChecks r) (pieceChecks k) (pieceBlockChecks l) (said x) (inside-fault l k (said x) bytes held) h)

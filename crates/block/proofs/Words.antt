@@ -109,7 +109,11 @@ corner-at : (l : List ℕ) (j : ℕ) (z : ℤ) → Spelt (byte l (12 + 2 * j)) (
 corner-at l j z s = let e : 2 + 2 * (5 + j) ≡ 12 + 2 * j = omega arith in let f : 3 + 2 * (5 + j) ≡ 12 + 2 * j + 1 = omega arith in rw (e, f) s
 
 module _ (l : List ℕ) (a : List ℤ) (j : ℕ) (z : ℤ) where
-  pub corner-stored : j < length a → SFits w32 z → ((k : ℕ) → k < j → NumberAt l (5 + k) (getD a k (pos 0))) → Spelt (byte l (12 + 2 * j)) (byte l (12 + 2 * j + 1)) z → (k : ℕ) → k < j + 1 → NumberAt l (5 + k) (getD (set a j (toZ w32 (ofZ w32 z))) k (pos 0))
+  -- the first n numbers of corners stand in a list
+  abbrev Cornered : ℕ → List ℤ → Type 0
+  Cornered n b = (k : ℕ) → k < n → NumberAt l (5 + k) (getD b k (pos 0))
+
+  pub corner-stored : j < length a → SFits w32 z → Cornered j a → Spelt (byte l (12 + 2 * j)) (byte l (12 + 2 * j + 1)) z → Cornered (j + 1) (set a j (toZ w32 (ofZ w32 z)))
   corner-stored h f before s =
       below-more (λ k. NumberAt l (5 + k) (getD (set a j (toZ w32 (ofZ w32 z))) k (pos 0))) j
       (λ k g. rw (getD-set-other a j k (toZ w32 (ofZ w32 z)) (pos 0) (λ q. ne k g q)) (before k g))

@@ -2,22 +2,22 @@
 use mathlib.Core.Path.{_≡_, refl, sym, ap, _∙_}
 use mathlib.Core.Logic.{inl}
 use mathlib.Core.List.{List, [], _∷_, _++_}
-use Prim.Native.Nat.{ℕ, zero, suc, _*_, _-_, _%_}
+use Prim.Native.Nat.{ℕ, zero, suc, _+_, _*_, _-_, _%_}
 use native.Mathlib.Omega.{arith}
 use lib.ListN.{replicate, length-replicate}
 use Rattle.rules.specs.Refusal.{refuse, Passes, Fault}
 use Rattle.rules.specs.Good.{runChecks, pieceChecks}
 use Rattle.rules.proofs.Checks.{fault-left, fault-right}
-use Rattle.block.specs.Layout.{byte, sum, plainSum, weighedSum}
+use Rattle.block.specs.Layout.{blockSize, bodySize, byte, sum, plainSum, weighedSum}
 use Rattle.block.specs.Reading.{RunIn, PieceIn, inside, blockChecks, headerBytes, headerChecks, runBytes, runBlockChecks, pieceBytes, pieceBlockChecks}
 use Rattle.block.proofs.Bytes.{repeated, sum-same}
 
 unfoldable pub zeros : List ℕ
-zeros = replicate 512 0
+zeros = replicate blockSize 0
 
 pub zero-at : (i : ℕ) → byte zeros i ≡ 0
 unfolding zeros
-zero-at i = repeated 0 512 i
+zero-at i = repeated 0 blockSize i
 
 no-sum : (n : ℕ) → sum (λ i. 0) n ≡ 0
 unfolding sum
@@ -26,16 +26,16 @@ no-sum (suc n) = omega (arith, no-sum n)
 
 plain-zero : plainSum zeros ≡ 0
 unfolding plainSum
-plain-zero = ap (λ n. n % 255) (sum-same (λ i. byte zeros i) (λ i. 0) 510 (λ i h. zero-at i) ∙ no-sum 510)
+plain-zero = ap (λ n. n % 255) (sum-same (λ i. byte zeros i) (λ i. 0) bodySize (λ i h. zero-at i) ∙ no-sum bodySize)
 
 weighed-zero : weighedSum zeros ≡ 0
 unfolding weighedSum
 weighed-zero =
-    ap (λ n. n % 255) (sum-same (λ i. (510 - i) * byte zeros i) (λ i. 0) 510 (λ i h. rw (zero-at i) (omega arith)) ∙ no-sum 510)
+    ap (λ n. n % 255) (sum-same (λ i. (bodySize - i) * byte zeros i) (λ i. 0) bodySize (λ i h. rw (zero-at i) (omega arith)) ∙ no-sum bodySize)
 
 pub zero-sealed : Passes (blockChecks zeros)
 unfolding zeros blockChecks
-zero-sealed = (length-replicate {A = ℕ} 512 0, (record { first = zero-at 510 ∙ sym plain-zero; second = zero-at 511 ∙ sym weighed-zero }, tt))
+zero-sealed = (length-replicate {A = ℕ} blockSize 0, (record { first = zero-at bodySize ∙ sym plain-zero; second = zero-at (bodySize + 1) ∙ sym weighed-zero }, tt))
 
 other : (n : ℕ) → byte zeros 0 ≡ suc n → ⊥
 other n e = omega (arith, zero-at 0)

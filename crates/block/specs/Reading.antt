@@ -8,7 +8,7 @@ use Rattle.rules.specs.Reach.{Between, Corners, Pieces, Run, Piece, piece}
 use Rattle.rules.specs.Ring.{ring}
 use Rattle.rules.specs.Refusal.{Refusal, refuse, Check, Passes, Fault, demand, each}
 use Rattle.rules.specs.Good.{Sized, runChecks, pieceChecks}
-use Rattle.refusal.specs.Said.{said}
+use Rattle.refusal.specs.Said.{said, Writes}
 use Rattle.refusal.specs.declared.Checked.{Checked}
 use Rattle.refusal.specs.declared.Checked.the-variants.{Good, Refused}
 use Rattle.piece.specs.Numbers.{runOf, pieceOf}
@@ -19,17 +19,18 @@ use Rattle.block.specs.declared.HeaderRead.the-variants.{Count, NoHeader
 use Rattle.block.specs.declared.RunRead.{RunRead}
 use Rattle.block.specs.declared.RunRead.the-variants.{Found, NoRun}
 use Rattle.block.specs.declared.PieceRead.{PieceRead}
-use Rattle.block.specs.Layout.{byte, plainSum, weighedSum, name, headerBlock, runNumbers, runBlock, pieceNumbers, pieceBlock, filled, blockOf}
+use Rattle.block.specs.Layout.{blockSize, bodySize, name, edition, pieceKind, runKind}
+use Rattle.block.specs.Layout.{byte, plainSum, weighedSum, words, headerBlock, runNumbers, runBlock, pieceNumbers, pieceBlock, filled, blockOf}
 
 -- ---- the checks of a block's own bytes
 -- a block has 512 bytes
 abbrev pub lengthCheck : List ℕ → Check
-lengthCheck l = demand (length l ≡ 512) (refuse 1 0 0)
+lengthCheck l = demand (length l ≡ blockSize) (refuse 1 0 0)
 
 -- bytes 510 and 511 of a block are the check of these bytes
 pub record SealedAs (l block : List ℕ) : Type 0 where
-  pub first : byte block 510 ≡ plainSum l
-  pub second : byte block 511 ≡ weighedSum l
+  pub first : byte block bodySize ≡ plainSum l
+  pub second : byte block (bodySize + 1) ≡ weighedSum l
 
 -- a block is sealed by its own
 abbrev pub Sealed : List ℕ → Type 0
@@ -48,7 +49,7 @@ NotZero l from j = byte l (from + j) ≡ 0 → ⊥
 
 -- the bytes from here to 509 have no name, and are zero
 abbrev pub unnamedCheck : List ℕ → ℕ → Check
-unnamedCheck l from = each (NotZero l from) (510 - from) (λ i. refuse 3 (from + i) 0)
+unnamedCheck l from = each (NotZero l from) (bodySize - from) (λ i. refuse 3 (from + i) 0)
 
 -- any block: length, then check
 unfoldable pub blockChecks : List ℕ → List Check
@@ -62,7 +63,7 @@ Misspelt l j = byte l j ≡ getD name j 0 → ⊥
 unfoldable pub headerBytes : List ℕ → List Check
 headerBytes l =
     each (Misspelt l) 4 (λ i. refuse 3 i 0)
-    ∷ byteCheck l 4 1
+    ∷ byteCheck l 4 edition
     ∷ demand (Pieces (byte l 5)) (refuse 3 5 0)
     ∷ unnamedCheck l 6
     ∷ []
@@ -72,12 +73,12 @@ headerChecks l = blockChecks l ++ headerBytes l
 
 -- a run, by rising offset: the kind, the unnamed bytes
 unfoldable pub runBytes : List ℕ → List Check
-runBytes l = byteCheck l 0 2 ∷ byteCheck l 1 0 ∷ unnamedCheck l 16 ∷ []
+runBytes l = byteCheck l 0 runKind ∷ byteCheck l 1 0 ∷ unnamedCheck l 16 ∷ []
 
 -- a piece: the kind, the corner count, the unnamed bytes
 unfoldable pub pieceBytes : List ℕ → List Check
 pieceBytes l =
-    byteCheck l 0 1
+    byteCheck l 0 pieceKind
     ∷ demand (Corners (byte l 1)) (refuse 5 0 0)
     ∷ unnamedCheck l (12 + 4 * byte l 1)
     ∷ []
@@ -162,34 +163,53 @@ PieceFound l r (Refused x) = PieceRefused l (said x) r
 abbrev pub PieceSays : List ℕ → PieceRead → Type 0
 PieceSays l r = PieceFound l r (r .found)
 
--- ---- writing
+-- ---- writing: what is refused, and what is answered and left
 -- asked for with a count over 126: 3 at 5
 unfoldable pub headerAsked : List ℕ → ℕ → List Check
 headerAsked l n = lengthCheck l ∷ demand (Pieces n) (refuse 3 5 0) ∷ []
 
+abbrev pub WriteHeaderSays : ℕ → List ℕ → List ℕ → Checked → Type 0
+WriteHeaderSays n before after r = Writes (headerAsked before n) (headerBlock n) before after r
+
 -- first bytes and others from byte `at` on, within 510
 pub record PartsFit (first last : List ℕ) (at : ℕ) : Type 0 where
   pub begin : length first ≤ at
-  pub end : at + length last ≤ 510
+  pub end : at + length last ≤ bodySize
 
 unfoldable pub partsAsked : List ℕ → List ℕ → List ℕ → ℕ → List Check
 partsAsked l first last at = lengthCheck l ∷ demand (PartsFit first last at) (refuse 1 0 0) ∷ []
 
 -- and the block that is made of them
+abbrev pub partsBlock : List ℕ → List ℕ → ℕ → List ℕ
+partsBlock first last at = blockOf (filled at first ++ last)
+
+abbrev pub WritePartsSays : List ℕ → List ℕ → ℕ → List ℕ → List ℕ → Checked → Type 0
+WritePartsSays first last at before after r = Writes (partsAsked before first last at) (partsBlock first last at) before after r
+
 pub record PartsIn (first last : List ℕ) (at : ℕ) (l : List ℕ) : Type 0 where
   pub fit : PartsFit first last at
-  pub same : l ≡ blockOf (filled at first ++ last)
+  pub same : l ≡ partsBlock first last at
 
 -- numbers to be put into as many pairs of bytes; number i stands at byte 2·i
 abbrev pub Wide : List ℤ → ℕ → Type 0
 Wide numbers j = Word (getD numbers j (pos 0)) → ⊥
 
 unfoldable pub wordsAsked : List ℕ → List ℤ → List Check
-wordsAsked bytes numbers = demand (length bytes ≡ 2 * length numbers) (refuse 1 0 0) ∷ each (Wide numbers) (length numbers) (λ i. refuse 4 (2 * i) 0) ∷ []
+wordsAsked bytes numbers =
+    demand (length bytes ≡ 2 * length numbers) (refuse 1 0 0) ∷ each (Wide numbers) (length numbers) (λ i. refuse 4 (2 * i) 0) ∷ []
+
+abbrev pub WriteWordsSays : List ℤ → List ℕ → List ℕ → Checked → Type 0
+WriteWordsSays numbers before after r = Writes (wordsAsked before numbers) (words numbers) before after r
 
 -- a run or a piece in plain numbers
 unfoldable pub runAsked : List ℕ → Run → List Check
 runAsked l r = lengthCheck l ∷ runChecks r
 
+abbrev pub WriteRunSays : Run → List ℕ → List ℕ → Checked → Type 0
+WriteRunSays run before after r = Writes (runAsked before run) (runBlock run) before after r
+
 unfoldable pub pieceAsked : List ℕ → Piece → List Check
 pieceAsked l k = lengthCheck l ∷ pieceChecks k
+
+abbrev pub WritePieceSays : Piece → List ℕ → List ℕ → Checked → Type 0
+WritePieceSays k before after r = Writes (pieceAsked before k) (pieceBlock k) before after r

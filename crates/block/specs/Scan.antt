@@ -1,26 +1,32 @@
 -- What the scans of a block find. Assumes nothing.
 use mathlib.Core.Path.{_≡_}
-use mathlib.Core.List.{List, [], _∷_, _++_}
+use mathlib.Core.List.{List}
 use Prim.Native.Nat.{ℕ, _+_, _*_, _-_, _≤_, _<_}
 use lib.IntN.{ℤ, pos}
 use lib.ListN.{length, getD}
 use Rattle.piece.specs.declared.Run.{Run}
 use Rattle.piece.specs.declared.Band.{Band}
-use Rattle.block.specs.Layout.{byte, sum, name}
+use Rattle.block.specs.Layout.{blockSize, bodySize, byte, sum}
 use Rattle.block.specs.Word.{Spelt}
 
 -- the first 510 bytes are the same
 abbrev pub Alike : List ℕ → List ℕ → Type 0
-Alike l m = (i : ℕ) → i < 510 → byte l i ≡ byte m i
+Alike l m = (i : ℕ) → i < bodySize → byte l i ≡ byte m i
 
 -- the bytes from here up to there are zero
 abbrev pub Clean : List ℕ → ℕ → ℕ → Type 0
 Clean l from to = (i : ℕ) → from ≤ i → i < to → byte l i ≡ 0
 
+-- the bytes before here stay, and those up to the check become zero
+pub record Cleared (from : ℕ) (before after : List ℕ) : Type 0 where
+  pub long : length after ≡ blockSize
+  pub stays : (i : ℕ) → i < from → byte after i ≡ byte before i
+  pub zeros : Clean after from bodySize
+
 -- the sums of bytes that stand in a block from byte `at` on, no remainder taken
 pub record SumsAt (l : List ℕ) (at plain weighed : ℕ) : Type 0 where
   pub plain-is : plain ≡ sum (λ i. byte l i) (length l)
-  pub weighed-is : weighed ≡ sum (λ i. (510 - (at + i)) * byte l i) (length l)
+  pub weighed-is : weighed ≡ sum (λ i. (bodySize - (at + i)) * byte l i) (length l)
   pub plain-most : plain ≤ 255 * length l
   pub weighed-most : weighed ≤ 130050 * length l
 
@@ -49,7 +55,3 @@ pub record CornersAt (l : List ℕ) (n : ℕ) (a : List ℤ) : Type 0 where
   pub all : length a ≡ 128
   pub each : (j : ℕ) → j < n → NumberAt l (5 + j) (getD a j (pos 0))
   pub rest : (j : ℕ) → n ≤ j → getD a j (pos 0) ≡ pos 0
-
--- the first bytes of a header
-abbrev pub HeaderFront : ℕ → List ℕ → Type 0
-HeaderFront n front = front ≡ name ++ (1 ∷ n ∷ [])

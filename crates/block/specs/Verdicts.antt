@@ -1,6 +1,6 @@
 -- The verdict of a run on the piece in a block: the order of refusals, and what is answered. Assumes nothing.
 use mathlib.Core.Path.{_≡_}
-use mathlib.Core.List.{List, _++_}
+use mathlib.Core.List.{List, _∷_, _++_}
 use Prim.Native.Nat.{ℕ}
 use Rattle.rules.specs.Reach.{Run, Piece}
 use Rattle.rules.specs.Refusal.{Check, Passes, Fault}
@@ -11,7 +11,7 @@ use Rattle.refusal.specs.Said.{said}
 use Rattle.piece.specs.declared.motion.Verdict.{Verdict}
 use Rattle.piece.specs.declared.motion.Verdict.the-variants.{Clear, Mark, Refused}
 use Rattle.block.specs.Layout.{pieceBlock}
-use Rattle.block.specs.Reading.{pieceBlockChecks}
+use Rattle.block.specs.Reading.{lengthCheck, pieceBlockChecks}
 
 -- l is the block of a good piece, and a is the answer to a good run on it
 pub record VerdictOn (r : Run) (l : List ℕ) (a : Answer) : Type 0 where
@@ -21,9 +21,9 @@ pub record VerdictOn (r : Run) (l : List ℕ) (a : Answer) : Type 0 where
   pub good : Passes (pieceChecks piece)
   pub verdict : rules.Verdict r piece a
 
--- the run is checked before the block
+-- the block's length, then the run, and then all else of the block
 unfoldable pub verdictInChecks : Run → List ℕ → List Check
-verdictInChecks r l = runChecks r ++ pieceBlockChecks l
+verdictInChecks r l = (lengthCheck l ∷ runChecks r) ++ pieceBlockChecks l
 
 abbrev pub VerdictInSays : Run → List ℕ → Verdict → Type 0
 VerdictInSays r l Clear = VerdictOn r l clear

@@ -1,4 +1,5 @@
 // Bytes into a lent block.
+use crate::layout::BODY;
 use crate::sums::seal;
 use crate::word::bits_of;
 use crate::word::fits;
@@ -11,10 +12,10 @@ ghost use Prim.Native.Nat.{ℕ, suc, _+_, _*_, _/_, _%_, _≤_, _<_};
 ghost use lib.IntN.{pos};
 ghost use lib.ListN.{length, getD, set, take};
 ghost use Rattle.whole.specs.Front.{Front};
-ghost use Rattle.block.specs.Layout.{byte, word, words, blockOf};
-ghost use Rattle.piece.specs.Decide.{Seeks};
-ghost use Rattle.refusal.specs.Said.{Writes};
-ghost use Rattle.block.specs.Reading.{Word, Wide, wordsAsked};
+ghost use Rattle.block.specs.Layout.{blockSize, bodySize, byte, word, words, blockOf};
+ghost use Rattle.whole.specs.Decide.{Seeks};
+ghost use Rattle.block.specs.Reading.{Word, Wide, WriteWordsSays};
+ghost use Rattle.block.specs.Scan.{Cleared};
 
 // The bytes from the begin of a list on.
 pub(crate) fn copy(front: &[u8], block: &mut [u8])
@@ -29,11 +30,11 @@ pub(crate) fn copy(front: &[u8], block: &mut [u8])
 }
 
 pub(crate) fn clear(block: &mut [u8], from: usize)
-    requires { ⌜ (from ≤ 510) × (length (now block) ≡ 512) ⌝ }
-    ensures { λ _. ⌜ (length (now (block .exit)) ≡ 512) × (((i : ℕ) → i < from → byte (now (block .exit)) i ≡ byte (now (block .entry)) i) × ((i : ℕ) → from ≤ i → i < 510 → byte (now (block .exit)) i ≡ 0)) ⌝ }
+    requires { ⌜ (from ≤ bodySize) × (length (now block) ≡ blockSize) ⌝ }
+    ensures { λ _. ⌜ Cleared from (now (block .entry)) (now (block .exit)) ⌝ }
 {
     let mut i = from;
-    while i < 510 {
+    while i < BODY {
         block[i] = 0;
         i += 1;
     }
@@ -41,20 +42,11 @@ pub(crate) fn clear(block: &mut [u8], from: usize)
 
 // The block of the bytes before `end`: zeros follow them, and the check.
 pub(crate) fn finish(block: &mut [u8], end: usize)
-    requires { ⌜ (end ≤ 510) × (length (now block) ≡ 512) ⌝ }
+    requires { ⌜ (end ≤ bodySize) × (length (now block) ≡ blockSize) ⌝ }
     ensures { λ _. ⌜ now (block .exit) ≡ blockOf (take end (now (block .entry))) ⌝ }
 {
     clear(block, end);
     seal(block);
-}
-
-// The block of its first bytes.
-pub(crate) fn put(front: &[u8], block: &mut [u8])
-    requires { ⌜ (length (now front) ≤ 510) × (length (now block) ≡ 512) ⌝ }
-    ensures { λ _. ⌜ now (block .exit) ≡ blockOf (now (front .entry)) ⌝ }
-{
-    copy(front, block);
-    finish(block, front.len());
 }
 
 // The two bytes of number j, in their place.
@@ -94,7 +86,7 @@ fn first_wide(numbers: &[i32]) -> usize
 
 // Any numbers of two bytes, for whoever lays them out.
 pub fn write_words(numbers: &[i32], bytes: &mut [u8]) -> Checked
-    ensures { λ r. ⌜ Writes (wordsAsked (now (bytes .entry)) (now (numbers .entry))) (words (now (numbers .entry))) (now (bytes .entry)) (now (bytes .exit)) r ⌝ }
+    ensures { λ r. ⌜ WriteWordsSays (now (numbers .entry)) (now (bytes .entry)) (now (bytes .exit)) r ⌝ }
 {
     let size = bytes.len();
     if size % 2 != 0 {

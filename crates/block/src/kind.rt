@@ -1,14 +1,20 @@
 // What every block is looked at for: its length and check, then the bytes of its kind that are no numbers.
-use crate::header::check_header_bytes;
-use crate::pieces::check_piece_bytes;
-use crate::runs::check_run_bytes;
+use crate::layout::EDITION;
+use crate::layout::MOST;
+use crate::layout::PIECE;
+use crate::layout::RUN;
+use crate::layout::letter;
+use crate::scan::check_unnamed;
 use crate::sums::check_block;
 use refusal::Checked;
+use refusal::Refusal;
 ghost use mathlib.Core.Path.{_≡_};
 ghost use mathlib.Core.List.{_++_};
 ghost use lib.ListN.{length};
 ghost use Rattle.refusal.specs.Said.{Finds};
-ghost use Rattle.block.specs.Reading.{blockChecks, bytesOf};
+ghost use Rattle.whole.specs.Decide.{Seeks};
+ghost use Rattle.block.specs.Layout.{blockSize};
+ghost use Rattle.block.specs.Reading.{Misspelt, blockChecks, headerBytes, runBytes, pieceBytes, bytesOf};
 
 pub(crate) enum Kind {
     Header,
@@ -16,8 +22,78 @@ pub(crate) enum Kind {
     Piece,
 }
 
+fn first_letter(block: &[u8]) -> usize
+    requires { ⌜ length (now block) ≡ blockSize ⌝ }
+    ensures { λ r. ⌜ Seeks (Misspelt (now (block .entry))) 4 r ⌝ }
+{
+    let mut i = 0;
+    while i < 4 {
+        let right = letter(i);
+        if block[i] != right {
+            return i;
+        }
+        i += 1;
+    }
+    i
+}
+
+// The bytes of a header, by rising offset.
+fn check_header_bytes(block: &[u8]) -> Checked
+    requires { ⌜ length (now block) ≡ blockSize ⌝ }
+    ensures { λ r. ⌜ Finds (headerBytes (now (block .entry))) r ⌝ }
+{
+    let at = first_letter(block);
+    if at < 4 {
+        return Checked::Refused(Refusal::Kind(at));
+    }
+    let edition = block[4];
+    if edition != EDITION {
+        return Checked::Refused(Refusal::Kind(4));
+    }
+    let pieces = block[5] as u32;
+    if MOST < pieces {
+        return Checked::Refused(Refusal::Kind(5));
+    }
+    check_unnamed(block, 6)
+}
+
+// The bytes of a run block that are no numbers, by rising offset.
+fn check_run_bytes(block: &[u8]) -> Checked
+    requires { ⌜ length (now block) ≡ blockSize ⌝ }
+    ensures { λ r. ⌜ Finds (runBytes (now (block .entry))) r ⌝ }
+{
+    let kind = block[0];
+    if kind != RUN {
+        return Checked::Refused(Refusal::Kind(0));
+    }
+    let second = block[1];
+    if second != 0 {
+        return Checked::Refused(Refusal::Kind(1));
+    }
+    check_unnamed(block, 16)
+}
+
+// The bytes of a piece block that are no numbers: kind, corner count, unnamed bytes.
+fn check_piece_bytes(block: &[u8]) -> Checked
+    requires { ⌜ length (now block) ≡ blockSize ⌝ }
+    ensures { λ r. ⌜ Finds (pieceBytes (now (block .entry))) r ⌝ }
+{
+    let kind = block[0];
+    if kind != PIECE {
+        return Checked::Refused(Refusal::Kind(0));
+    }
+    let count = block[1] as usize;
+    if count < 3 {
+        return Checked::Refused(Refusal::Corners);
+    }
+    if 64 < count {
+        return Checked::Refused(Refusal::Corners);
+    }
+    check_unnamed(block, 12 + 4 * count)
+}
+
 fn check_bytes(block: &[u8], kind: Kind) -> Checked
-    requires { ⌜ length (now block) ≡ 512 ⌝ }
+    requires { ⌜ length (now block) ≡ blockSize ⌝ }
     ensures { λ r. ⌜ Finds (bytesOf kind (now (block .entry))) r ⌝ }
 {
     match kind {

@@ -3,6 +3,7 @@
 mod fill;
 mod header;
 mod kind;
+mod layout;
 mod parts;
 mod pieces;
 mod runs;

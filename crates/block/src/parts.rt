@@ -1,6 +1,9 @@
 // A block of two parts with zeros between them: what stands in the parts alone is summed.
 use crate::fill::clear;
 use crate::fill::copy;
+use crate::layout::BODY;
+use crate::layout::LAST;
+use crate::layout::SIZE;
 use crate::scan::alike;
 use crate::scan::clean;
 use crate::sums::Sums;
@@ -10,10 +13,9 @@ ghost use mathlib.Core.Path.{_≡_};
 ghost use mathlib.Core.List.{_++_};
 ghost use Prim.Native.Nat.{_+_, _≤_};
 ghost use lib.ListN.{length};
-ghost use Rattle.piece.specs.Decide.{Decides};
-ghost use Rattle.block.specs.Layout.{plainSum, weighedSum, filled, blockOf};
-ghost use Rattle.refusal.specs.Said.{Writes};
-ghost use Rattle.block.specs.Reading.{SealedAs, PartsFit, partsAsked, PartsIn};
+ghost use Rattle.whole.specs.Decide.{Decides};
+ghost use Rattle.block.specs.Layout.{blockSize, bodySize, plainSum, weighedSum, filled};
+ghost use Rattle.block.specs.Reading.{SealedAs, PartsFit, WritePartsSays, PartsIn};
 ghost use Rattle.block.specs.Scan.{Alike, SumsAt};
 
 // Whether the second part begins after the first one, and ends before the check.
@@ -23,15 +25,15 @@ fn fit(first: &[u8], last: &[u8], at: usize) -> bool
     if at < first.len() {
         return false;
     }
-    if 510 < at {
+    if BODY < at {
         return false;
     }
-    last.len() <= 510 - at
+    last.len() <= BODY - at
 }
 
-// The sums of bytes that stand in a block from byte `at` on: the largest are 130,050 and 66,325,500.
+// The sums of bytes that stand in a block from byte `at` on, no remainder taken: the largest are 130,050 and 33,227,775.
 fn sums_at(bytes: &[u8], at: usize) -> Sums
-    requires { ⌜ at + length (now bytes) ≤ 510 ⌝ }
+    requires { ⌜ at + length (now bytes) ≤ bodySize ⌝ }
     ensures { λ r. ⌜ SumsAt (now (bytes .entry)) at (r .plain) (r .weighed) ⌝ }
 {
     let mut plain: u32 = 0;
@@ -40,7 +42,7 @@ fn sums_at(bytes: &[u8], at: usize) -> Sums
     while i < bytes.len() {
         let byte = bytes[i] as u32;
         plain += byte;
-        weighed += (510 - (at + i)) as u32 * byte;
+        weighed += (BODY - (at + i)) as u32 * byte;
         i += 1;
     }
     Sums { plain, weighed }
@@ -60,7 +62,7 @@ fn parts_sums(first: &[u8], last: &[u8], at: usize) -> Sums
 }
 
 fn lay_parts(first: &[u8], last: &[u8], at: usize, block: &mut [u8])
-    requires { ⌜ PartsFit (now first) (now last) at × (length (now block) ≡ 512) ⌝ }
+    requires { ⌜ PartsFit (now first) (now last) at × (length (now block) ≡ blockSize) ⌝ }
     ensures { λ _. ⌜ Alike (now (block .exit)) (filled at (now (first .entry)) ++ now (last .entry)) ⌝ }
 {
     let end = at + last.len();
@@ -71,9 +73,9 @@ fn lay_parts(first: &[u8], last: &[u8], at: usize, block: &mut [u8])
 
 // The first bytes of a block, zeros up to byte `at`, and the bytes that stand there; zeros and the check follow.
 pub fn write_parts(first: &[u8], last: &[u8], at: usize, block: &mut [u8]) -> Checked
-    ensures { λ r. ⌜ Writes (partsAsked (now (block .entry)) (now (first .entry)) (now (last .entry)) at) (blockOf (filled at (now (first .entry)) ++ now (last .entry))) (now (block .entry)) (now (block .exit)) r ⌝ }
+    ensures { λ r. ⌜ WritePartsSays (now (first .entry)) (now (last .entry)) at (now (block .entry)) (now (block .exit)) r ⌝ }
 {
-    if block.len() != 512 {
+    if block.len() != SIZE {
         return Checked::Refused(Refusal::Length);
     }
     if !fit(first, last, at) {
@@ -81,14 +83,14 @@ pub fn write_parts(first: &[u8], last: &[u8], at: usize, block: &mut [u8]) -> Ch
     }
     let right = parts_sums(first, last, at);
     lay_parts(first, last, at, block);
-    block[510] = right.plain as u8;
-    block[511] = right.weighed as u8;
+    block[BODY] = right.plain as u8;
+    block[LAST] = right.weighed as u8;
     Checked::Good
 }
 
 // Whether the first 510 bytes are those of the two parts.
 fn holds(first: &[u8], last: &[u8], at: usize, block: &[u8]) -> bool
-    requires { ⌜ PartsFit (now first) (now last) at × (length (now block) ≡ 512) ⌝ }
+    requires { ⌜ PartsFit (now first) (now last) at × (length (now block) ≡ blockSize) ⌝ }
     ensures { λ r. ⌜ Decides (Alike (now (block .entry)) (filled at (now (first .entry)) ++ now (last .entry))) r ⌝ }
 {
     let start = first.len();
@@ -102,17 +104,17 @@ fn holds(first: &[u8], last: &[u8], at: usize, block: &[u8]) -> bool
     if !alike(&block[at..end], last) {
         return false;
     }
-    clean(block, end, 510)
+    clean(block, end, BODY)
 }
 
 // Whether the last two bytes are the check of the two parts.
 fn is_sealed(first: &[u8], last: &[u8], at: usize, block: &[u8]) -> bool
-    requires { ⌜ PartsFit (now first) (now last) at × (length (now block) ≡ 512) ⌝ }
+    requires { ⌜ PartsFit (now first) (now last) at × (length (now block) ≡ blockSize) ⌝ }
     ensures { λ r. ⌜ Decides (SealedAs (filled at (now (first .entry)) ++ now (last .entry)) (now (block .entry))) r ⌝ }
 {
     let right = parts_sums(first, last, at);
-    let plain = block[510] as u32;
-    let weighed = block[511] as u32;
+    let plain = block[BODY] as u32;
+    let weighed = block[LAST] as u32;
     if plain != right.plain {
         return false;
     }
@@ -123,7 +125,7 @@ fn is_sealed(first: &[u8], last: &[u8], at: usize, block: &[u8]) -> bool
 pub fn is_parts(first: &[u8], last: &[u8], at: usize, block: &[u8]) -> bool
     ensures { λ r. ⌜ Decides (PartsIn (now (first .entry)) (now (last .entry)) at (now (block .entry))) r ⌝ }
 {
-    if block.len() != 512 {
+    if block.len() != SIZE {
         return false;
     }
     if !fit(first, last, at) {

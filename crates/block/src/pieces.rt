@@ -4,8 +4,9 @@ use crate::fill::finish;
 use crate::fill::lay;
 use crate::kind::Kind;
 use crate::kind::check_kind;
+use crate::layout::PIECE;
+use crate::layout::SIZE;
 use crate::scan::band_at;
-use crate::scan::check_unnamed;
 use crate::scan::corners_at;
 use piece::Band;
 use piece::check_piece;
@@ -18,29 +19,9 @@ ghost use lib.ListN.{length, take};
 ghost use Rattle.rules.specs.Ring.{ring};
 ghost use Rattle.rules.specs.Refusal.{Passes};
 ghost use Rattle.rules.specs.Good.{pieceChecks};
-ghost use Rattle.refusal.specs.Said.{Finds, Writes};
 ghost use Rattle.piece.specs.Numbers.{pieceOf};
-ghost use Rattle.block.specs.Layout.{words, pieceNumbers, pieceBlock};
-ghost use Rattle.block.specs.Reading.{blockChecks, pieceBytes, pieceAsked, PieceSays, Holds, nothing};
-
-// The bytes of a piece block that are no numbers: kind, corner count, unnamed bytes.
-pub(crate) fn check_piece_bytes(block: &[u8]) -> Checked
-    requires { ⌜ length (now block) ≡ 512 ⌝ }
-    ensures { λ r. ⌜ Finds (pieceBytes (now (block .entry))) r ⌝ }
-{
-    let kind = block[0];
-    if kind != 1 {
-        return Checked::Refused(Refusal::Kind(0));
-    }
-    let count = block[1] as usize;
-    if count < 3 {
-        return Checked::Refused(Refusal::Corners);
-    }
-    if 64 < count {
-        return Checked::Refused(Refusal::Corners);
-    }
-    check_unnamed(block, 12 + 4 * count)
-}
+ghost use Rattle.block.specs.Layout.{pieceKind, blockSize, words, pieceNumbers};
+ghost use Rattle.block.specs.Reading.{blockChecks, pieceBytes, PieceSays, Holds, nothing, WritePieceSays};
 
 fn refused(x: Refusal) -> PieceRead
     ensures { λ r. ⌜ (r .found ≡ Checked.Refused x) × Holds r nothing ⌝ }
@@ -91,21 +72,21 @@ pub fn read_piece(block: &[u8]) -> PieceRead
 
 // What stands before the zeros of a piece block.
 fn lay_piece(band: Band, corners: &[i32], block: &mut [u8])
-    requires { ⌜ Passes (pieceChecks (pieceOf band (now corners))) × (length (now block) ≡ 512) ⌝ }
-    ensures { λ _. ⌜ take (12 + 2 * length (now (corners .entry))) (now (block .exit)) ≡ 1 ∷ ring (now (corners .entry)) .size ∷ words (pieceNumbers (pieceOf band (now (corners .entry)))) ⌝ }
+    requires { ⌜ Passes (pieceChecks (pieceOf band (now corners))) × (length (now block) ≡ blockSize) ⌝ }
+    ensures { λ _. ⌜ take (12 + 2 * length (now (corners .entry))) (now (block .exit)) ≡ pieceKind ∷ ring (now (corners .entry)) .size ∷ words (pieceNumbers (pieceOf band (now (corners .entry)))) ⌝ }
 {
     let numbers = [band.bottom, band.top, band.vx, band.vy, band.vz];
     let end = 12 + 2 * corners.len();
-    block[0] = 1;
+    block[0] = PIECE;
     block[1] = (corners.len() / 2) as u8;
     lay(&numbers, &mut block[2..12]);
     lay(corners, &mut block[12..end]);
 }
 
 pub fn write_piece(band: Band, corners: &[i32], block: &mut [u8]) -> Checked
-    ensures { λ r. ⌜ Writes (pieceAsked (now (block .entry)) (pieceOf band (now (corners .entry)))) (pieceBlock (pieceOf band (now (corners .entry)))) (now (block .entry)) (now (block .exit)) r ⌝ }
+    ensures { λ r. ⌜ WritePieceSays (pieceOf band (now (corners .entry))) (now (block .entry)) (now (block .exit)) r ⌝ }
 {
-    if block.len() != 512 {
+    if block.len() != SIZE {
         return Checked::Refused(Refusal::Length);
     }
     match check_piece(band, corners) {

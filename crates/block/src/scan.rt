@@ -1,4 +1,5 @@
 // What stands where in a block: bytes that must be zero, and numbers.
+use crate::layout::BODY;
 use crate::word::number_of;
 use piece::Band;
 use piece::Run;
@@ -9,8 +10,8 @@ ghost use mathlib.Core.List.{[], _∷_};
 ghost use Prim.Native.Nat.{_+_, _*_, _-_, _≤_, _<_};
 ghost use lib.ListN.{length};
 ghost use Rattle.refusal.specs.Said.{Finds};
-ghost use Rattle.piece.specs.Decide.{Decides, Seeks};
-ghost use Rattle.block.specs.Layout.{byte};
+ghost use Rattle.whole.specs.Decide.{Decides, Seeks};
+ghost use Rattle.block.specs.Layout.{blockSize, bodySize, byte};
 ghost use Rattle.block.specs.Word.{Spelt};
 ghost use Rattle.block.specs.Reading.{NotZero, unnamedCheck};
 ghost use Rattle.block.specs.Scan.{Clean, RunAt, BandAt, CornersAt};
@@ -49,12 +50,12 @@ pub(crate) fn alike(a: &[u8], b: &[u8]) -> bool
 
 // How many bytes are zero from here on.
 fn zeros_at(block: &[u8], from: usize) -> usize
-    requires { ⌜ (from ≤ 510) × (length (now block) ≡ 512) ⌝ }
-    ensures { λ r. ⌜ Seeks (NotZero (now (block .entry)) from) (510 - from) r ⌝ }
-    ensures { λ r. ⌜ r ≤ 510 - from ⌝ }
+    requires { ⌜ (from ≤ bodySize) × (length (now block) ≡ blockSize) ⌝ }
+    ensures { λ r. ⌜ Seeks (NotZero (now (block .entry)) from) (bodySize - from) r ⌝ }
+    ensures { λ r. ⌜ r ≤ bodySize - from ⌝ }
 {
     let mut j = 0;
-    while j < 510 - from {
+    while j < BODY - from {
         if block[from + j] != 0 {
             return j;
         }
@@ -64,24 +65,24 @@ fn zeros_at(block: &[u8], from: usize) -> usize
 }
 
 pub(crate) fn check_unnamed(block: &[u8], from: usize) -> Checked
-    requires { ⌜ (from ≤ 510) × (length (now block) ≡ 512) ⌝ }
+    requires { ⌜ (from ≤ bodySize) × (length (now block) ≡ blockSize) ⌝ }
     ensures { λ r. ⌜ Finds (unnamedCheck (now (block .entry)) from ∷ []) r ⌝ }
 {
-    if clean(block, from, 510) {
+    if clean(block, from, BODY) {
         return Checked::Good;
     }
     Checked::Refused(Refusal::Kind(from + zeros_at(block, from)))
 }
 
 pub(crate) fn number_at(block: &[u8], at: usize) -> i32
-    requires { ⌜ (at < 510) × (length (now block) ≡ 512) ⌝ }
+    requires { ⌜ (at < bodySize) × (length (now block) ≡ blockSize) ⌝ }
     ensures { λ r. ⌜ Spelt (byte (now (block .entry)) at) (byte (now (block .entry)) (at + 1)) r ⌝ }
 {
     number_of(block[at], block[at + 1])
 }
 
 pub(crate) fn run_at(block: &[u8]) -> Run
-    requires { ⌜ length (now block) ≡ 512 ⌝ }
+    requires { ⌜ length (now block) ≡ blockSize ⌝ }
     ensures { λ r. ⌜ RunAt (now (block .entry)) r ⌝ }
 {
     let low = block[14] as u32;
@@ -98,7 +99,7 @@ pub(crate) fn run_at(block: &[u8]) -> Run
 }
 
 pub(crate) fn band_at(block: &[u8]) -> Band
-    requires { ⌜ length (now block) ≡ 512 ⌝ }
+    requires { ⌜ length (now block) ≡ blockSize ⌝ }
     ensures { λ r. ⌜ BandAt (now (block .entry)) r ⌝ }
 {
     Band {
@@ -111,7 +112,7 @@ pub(crate) fn band_at(block: &[u8]) -> Band
 }
 
 pub(crate) fn corners_at(block: &[u8], n: usize) -> [i32; 128]
-    requires { ⌜ (n ≤ 128) × (length (now block) ≡ 512) ⌝ }
+    requires { ⌜ (n ≤ 128) × (length (now block) ≡ blockSize) ⌝ }
     ensures { λ r. ⌜ CornersAt (now (block .entry)) n r ⌝ }
 {
     let mut corners = [0i32; 128];

@@ -1,11 +1,14 @@
 // The check of a block, its last two bytes.
+use crate::layout::BODY;
+use crate::layout::LAST;
+use crate::layout::SIZE;
 use refusal::Checked;
 use refusal::Refusal;
 ghost use mathlib.Core.Path.{_≡_};
 ghost use Prim.Native.Nat.{_+_, _≤_};
 ghost use lib.ListN.{length, set};
 ghost use Rattle.refusal.specs.Said.{Finds};
-ghost use Rattle.block.specs.Layout.{plainSum, weighedSum};
+ghost use Rattle.block.specs.Layout.{blockSize, bodySize, plainSum, weighedSum};
 ghost use Rattle.block.specs.Reading.{blockChecks};
 
 pub(crate) struct Sums {
@@ -14,9 +17,9 @@ pub(crate) struct Sums {
 }
 
 // The two sums, each with one remainder at its end. Byte 255 + i stands beside byte i, since modulo 255 both weigh 255 - i:
-// half as many turns, and the sums are at most 130,050 and 33,162,750.
+// half as many turns, and the largest sums are 130,050 and 16,646,400.
 pub(crate) fn sums_of(block: &[u8]) -> Sums
-    requires { ⌜ 510 ≤ length (now block) ⌝ }
+    requires { ⌜ bodySize ≤ length (now block) ⌝ }
     ensures { λ r. ⌜ (r .plain ≡ plainSum (now (block .entry))) × (r .weighed ≡ weighedSum (now (block .entry))) ⌝ }
 {
     let mut plain: u32 = 0;
@@ -38,12 +41,12 @@ pub(crate) fn sums_of(block: &[u8]) -> Sums
 pub(crate) fn check_block(block: &[u8]) -> Checked
     ensures { λ r. ⌜ Finds (blockChecks (now (block .entry))) r ⌝ }
 {
-    if block.len() != 512 {
+    if block.len() != SIZE {
         return Checked::Refused(Refusal::Length);
     }
     let right = sums_of(block);
-    let first = block[510] as u32;
-    let second = block[511] as u32;
+    let first = block[BODY] as u32;
+    let second = block[LAST] as u32;
     if first != right.plain {
         return Checked::Refused(Refusal::Check);
     }
@@ -55,10 +58,10 @@ pub(crate) fn check_block(block: &[u8]) -> Checked
 
 // Puts the check in its place.
 pub(crate) fn seal(block: &mut [u8])
-    requires { ⌜ length (now block) ≡ 512 ⌝ }
-    ensures { λ _. ⌜ now (block .exit) ≡ set (set (now (block .entry)) 510 (plainSum (now (block .entry)))) 511 (weighedSum (now (block .entry))) ⌝ }
+    requires { ⌜ length (now block) ≡ blockSize ⌝ }
+    ensures { λ _. ⌜ now (block .exit) ≡ set (set (now (block .entry)) bodySize (plainSum (now (block .entry)))) (bodySize + 1) (weighedSum (now (block .entry))) ⌝ }
 {
     let right = sums_of(block);
-    block[510] = right.plain as u8;
-    block[511] = right.weighed as u8;
+    block[BODY] = right.plain as u8;
+    block[LAST] = right.weighed as u8;
 }

@@ -1,7 +1,7 @@
 // Numbers of two bytes, low byte first.
 ghost use mathlib.Core.Path.{_≡_};
 ghost use Prim.Native.Nat.{_+_, _*_, _/_, _%_, _<_};
-ghost use Rattle.piece.specs.Decide.{Decides};
+ghost use Rattle.whole.specs.Decide.{Decides};
 ghost use Rattle.block.specs.Layout.{word};
 ghost use Rattle.block.specs.Reading.{Word};
 ghost use Rattle.block.specs.Word.{Spelt};

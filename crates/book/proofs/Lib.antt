@@ -4,4 +4,5 @@ pub mod Kept
 pub mod Lay
 pub mod Look
 pub mod Found
+pub mod Conditions
 pub mod Unique

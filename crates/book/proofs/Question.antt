@@ -12,7 +12,7 @@ use Rattle.block.specs.Layout.{byte, filled, blockOf, runBody, runBlock, pieceB
 use Rattle.block.proofs.Bodies.{run-body-length, piece-body-length}
 use Rattle.block.proofs.RunLaws as runs
 use Rattle.block.proofs.PieceLaws as pieces
-use Rattle.book.specs.Entry.{question, four, entry}
+use Rattle.book.specs.Entry.{keyLength, four, opening, entryOf, question}
 use Rattle.book.proofs.Look.{code-of}
 
 -- equal lists with fronts of one length have equal fronts
@@ -23,26 +23,29 @@ backs : (a b c d : List ℕ) → length a ≡ length b → a ++ c ≡ b ++ d →
 backs a b c d n e = sym (drop-at a c (length b) n) ∙ ap (drop (length b)) e ∙ drop-at b d (length b) refl
 
 -- ---- questions
-pub question-length : (r : Run) (k : Piece) → length (k .corners) ≤ 128 → length (question r k) ≡ 281
+pub question-length : (r : Run) (k : Piece) → length (k .corners) ≤ 128 → length (question r k) ≡ keyLength
 unfolding question
 question-length r k h = omega (arith, length-append (runBody r) (pieceBody k), run-body-length r, piece-body-length k h)
 
 -- and so of a good piece
-pub good-length : (r : Run) (k : Piece) → Passes (pieceChecks k) → length (question r k) ≡ 281
+pub good-length : (r : Run) (k : Piece) → Passes (pieceChecks k) → length (question r k) ≡ keyLength
 good-length r k p = question-length r k (pieces.sized-most (k .corners) (pieces.good-sized k p))
+
+pub as-long : (r s : Run) (k m : Piece) → Passes (pieceChecks k) → Passes (pieceChecks m) → length (question r k) ≡ length (question s m)
+as-long r s k m p q = good-length r k p ∙ sym (good-length s m q)
 
 -- equal bodies make equal blocks, and a block holds one run, or one piece
 module _ (r s : Run) (k m : Piece) (e : question r k ≡ question s m) where
-  as-long : length (runBody r) ≡ length (runBody s)
-  as-long = run-body-length r ∙ sym (run-body-length s)
+  runs-long : length (runBody r) ≡ length (runBody s)
+  runs-long = run-body-length r ∙ sym (run-body-length s)
 
   same-run : runBlock r ≡ runBlock s
   unfolding question runBlock
-  same-run = ap (λ (l : List ℕ). blockOf (2 ∷ 0 ∷ l)) (fronts (runBody r) (runBody s) (pieceBody k) (pieceBody m) as-long e)
+  same-run = ap (λ (l : List ℕ). blockOf (2 ∷ 0 ∷ l)) (fronts (runBody r) (runBody s) (pieceBody k) (pieceBody m) runs-long e)
 
   same-piece : pieceBlock k ≡ pieceBlock m
   unfolding question pieceBlock
-  same-piece = ap (λ (l : List ℕ). blockOf (1 ∷ l)) (backs (runBody r) (runBody s) (pieceBody k) (pieceBody m) as-long e)
+  same-piece = ap (λ (l : List ℕ). blockOf (1 ∷ l)) (backs (runBody r) (runBody s) (pieceBody k) (pieceBody m) runs-long e)
 
   pub question-run : Passes (runChecks r) → Passes (runChecks s) → r ≡ s
   question-run p q = runs.run-one (runBlock r) r s (runs.good-in r p) (runs.block-in (runBlock r) s (record { good = q; same = same-run }))
@@ -58,16 +61,17 @@ block-fronts : (l m : List ℕ) → length l ≡ length m → blockOf l ≡ bloc
 unfolding blockOf filled
 block-fronts l m n e = fronts l m _ _ n (sym (append-assoc l _ _) ∙ e ∙ append-assoc m _ _)
 
-module _ (r s : Run) (k m : Piece) (c d : ℕ) (p : Passes (pieceChecks k)) (q : Passes (pieceChecks m)) (e : entry r k c ≡ entry s m d) where
-  both-long : length (question r k) ≡ length (question s m)
-  both-long = good-length r k p ∙ sym (good-length s m q)
+-- an entry has one key, and one code
+module _ (key other : List ℕ) (c d : ℕ) (n : length key ≡ length other) (e : entryOf key c ≡ entryOf other d) where
+  as-long-named : length (opening key ++ four c) ≡ length (opening other ++ four d)
+  as-long-named = omega (arith, length-append key (four c), length-append other (four d))
 
-  entry-front : question r k ++ four c ≡ question s m ++ four d
-  unfolding entry
-  entry-front = ap (drop 2) (block-fronts (3 ∷ 0 ∷ (question r k ++ four c)) (3 ∷ 0 ∷ (question s m ++ four d)) (omega (arith, length-append (question r k) (four c), length-append (question s m) (four d), both-long)) e)
+  entry-named : key ++ four c ≡ other ++ four d
+  unfolding entryOf
+  entry-named = ap (drop 2) (block-fronts (opening key ++ four c) (opening other ++ four d) as-long-named e)
 
-  pub entry-question : question r k ≡ question s m
-  entry-question = fronts (question r k) (question s m) (four c) (four d) both-long entry-front
+  pub entry-key : key ≡ other
+  entry-key = fronts key other (four c) (four d) n entry-named
 
   pub entry-code : c < 4294967296 → d < 4294967296 → c ≡ d
-  entry-code h g = four-one c d h g (backs (question r k) (question s m) (four c) (four d) both-long entry-front)
+  entry-code h g = four-one c d h g (backs key other (four c) (four d) n entry-named)

@@ -2,11 +2,12 @@
 mod front;
 mod slot;
 
+use crate::front::CODE;
 use crate::front::home_of;
 use crate::front::lay;
 use crate::slot::Found;
 use crate::slot::keep;
-use crate::slot::seek;
+use crate::slot::look;
 use piece::Band;
 use piece::NONE;
 use piece::Run;
@@ -16,15 +17,12 @@ use piece::check_run;
 use piece::verdict;
 use refusal::Checked;
 use refusal::Refusal;
-ghost use mathlib.Core.Path.{_≡_};
 ghost use Prim.Native.Nat.{suc, _*_, _≤_};
-ghost use lib.ListN.{length, replicate};
-ghost use Rattle.rules.specs.Refusal.{Passes};
-ghost use Rattle.rules.specs.Good.{runChecks};
+ghost use lib.ListN.{length};
 ghost use Rattle.piece.specs.Numbers.{runOf, pieceOf};
 ghost use Rattle.book.specs.Entry.{Slots};
 ghost use Rattle.book.specs.Ask.{AskSays};
-ghost use Rattle.book.specs.Steps.{Laid, Works};
+ghost use Rattle.book.specs.Steps.{Blank, Cut, cleared, Works};
 
 // A verdict, coded as in an entry, that was remembered or worked out; or the refusal.
 pub enum Asked {
@@ -34,28 +32,36 @@ pub enum Asked {
 }
 
 // The verdict is worked out, and the piece checked, only once.
-fn work(book: &mut [u8], at: usize, front: &[u8], run: Run, band: Band, corners: &[i32]) -> Asked
-    requires { ⌜ (512 * suc at ≤ length (now book)) × Laid (pieceOf band (now corners)) (now front) ⌝ }
-    ensures { λ r. ⌜ Works (now (book .entry)) (now (book .exit)) at (now (front .entry)) (runOf run) (pieceOf band (now (corners .entry))) r ⌝ }
+fn work(
+    book: &mut [u8],
+    at: usize,
+    front: &[u8],
+    end: usize,
+    run: Run,
+    band: Band,
+    corners: &[i32],
+) -> Asked
+    requires { ⌜ (512 * suc at ≤ length (now book)) × Cut (now front) end ⌝ }
+    ensures { λ r. ⌜ Works (now (book .entry)) (now (book .exit)) at (cleared (now (front .entry)) end) (runOf run) (pieceOf band (now (corners .entry))) r ⌝ }
 {
     let code = match verdict(run, band, corners) {
         Verdict::Refused(x) => return Asked::Refused(x),
         Verdict::Clear => NONE,
         Verdict::Mark(m) => m,
     };
-    keep(book, at, front, corners.len(), code);
+    keep(book, at, front, end, code);
     Asked::Worked(code)
 }
 
 // A good run asks: what is remembered is answered only of a good piece.
 fn answer(book: &mut [u8], run: Run, band: Band, corners: &[i32], front: &mut [u8]) -> Asked
-    requires { ⌜ Slots (now book) × (Passes (runChecks (runOf run)) × (now front ≡ replicate 283 0)) ⌝ }
+    requires { ⌜ Slots (now book) × Blank (runOf run) (now front) ⌝ }
     ensures { λ r. ⌜ AskSays (now (book .entry)) (now (book .exit)) (runOf run) (pieceOf band (now (corners .entry))) r ⌝ }
 {
-    let laid = lay(run, band, corners, front);
+    let end = lay(run, band, corners, front);
     let at = home_of(front, book.len() / 512);
-    match seek(laid, book, at, front, corners.len(), run) {
-        Found::Nothing => work(book, at, front, run, band, corners),
+    match look(book, at, front, end, run) {
+        Found::Nothing => work(book, at, front, end, run, band, corners),
         Found::Code(c) => match check_piece(band, corners) {
             Checked::Refused(x) => Asked::Refused(x),
             Checked::Good => Asked::Remembered(c),
@@ -68,18 +74,19 @@ pub fn ask(book: &mut [u8], run: Run, band: Band, corners: &[i32]) -> Asked
     ensures { λ r. ⌜ AskSays (now (book .entry)) (now (book .exit)) (runOf run) (pieceOf band (now (corners .entry))) r ⌝ }
 {
     let len = book.len();
+    let slots = len / 512;
     if len % 512 != 0 {
         return Asked::Refused(Refusal::Length);
     }
-    if len < 512 {
+    if slots < 1 {
         return Asked::Refused(Refusal::Length);
     }
-    if 65536 < len {
+    if 128 < slots {
         return Asked::Refused(Refusal::Length);
     }
     if let Checked::Refused(x) = check_run(run) {
         return Asked::Refused(x);
     }
-    let mut front = [0u8; 283];
+    let mut front = [0u8; CODE];
     answer(book, run, band, corners, &mut front)
 }

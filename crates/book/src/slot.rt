@@ -1,4 +1,5 @@
 // One slot of a book: what it remembers, and its bytes replaced.
+use crate::front::CODE;
 use crate::front::bytes_of;
 use block::is_parts;
 use block::write_parts;
@@ -10,10 +11,10 @@ ghost use Prim.Native.Nat.{suc, _+_, _*_, _≤_};
 ghost use lib.ListN.{length};
 ghost use Rattle.rules.specs.Reach.{Ticks};
 ghost use Rattle.piece.specs.Numbers.{runOf};
-ghost use Rattle.piece.specs.Decide.{Decides};
-ghost use Rattle.block.specs.Layout.{blockOf, blockAt};
-ghost use Rattle.book.specs.Entry.{four};
-ghost use Rattle.book.specs.Steps.{Coded, Padded, Ready, Recalls, Sought, Keeps};
+ghost use Rattle.whole.specs.Decide.{Decides};
+ghost use Rattle.block.specs.Layout.{filled, blockOf, blockAt};
+ghost use Rattle.book.specs.Entry.{codeAt, four};
+ghost use Rattle.book.specs.Steps.{Coded, Cut, cleared, Recalls, Keeps};
 
 // What a slot remembers of a question.
 pub(crate) enum Found {
@@ -31,32 +32,30 @@ fn code_in(slot: &[u8]) -> u32
     requires { ⌜ length (now slot) ≡ 512 ⌝ }
     ensures { λ r. ⌜ Coded (now (slot .entry)) r ⌝ }
 {
-    number_of(slot[283], slot[284], slot[285], slot[286])
+    number_of(slot[CODE], slot[CODE + 1], slot[CODE + 2], slot[CODE + 3])
 }
 
-// The entry of this question and code; only what stands in it is summed.
-fn write_entry(front: &[u8], size: usize, code: u32, slot: &mut [u8])
-    requires { ⌜ Padded (now front) size × (length (now slot) ≡ 512) ⌝ }
-    ensures { λ _. ⌜ now (slot .exit) ≡ blockOf (now (front .entry) ++ four code) ⌝ }
+// The entry of these first bytes and a code; only what stands in it is summed.
+fn write_entry(first: &[u8], code: u32, slot: &mut [u8])
+    requires { ⌜ (length (now first) ≤ codeAt) × (length (now slot) ≡ 512) ⌝ }
+    ensures { λ _. ⌜ now (slot .exit) ≡ blockOf (filled codeAt (now (first .entry)) ++ four code) ⌝ }
 {
-    let end = 27 + 2 * size;
     let last = bytes_of(code);
-    write_parts(&front[..end], &last, 283, slot);
+    write_parts(first, &last, CODE, slot);
 }
 
 // Whether the slot is that entry, byte for byte.
-fn is_entry(slot: &[u8], front: &[u8], size: usize, code: u32) -> bool
-    requires { ⌜ Padded (now front) size ⌝ }
-    ensures { λ r. ⌜ Decides (now (slot .entry) ≡ blockOf (now (front .entry) ++ four code)) r ⌝ }
+fn is_entry(slot: &[u8], first: &[u8], code: u32) -> bool
+    requires { ⌜ length (now first) ≤ codeAt ⌝ }
+    ensures { λ r. ⌜ Decides (now (slot .entry) ≡ blockOf (filled codeAt (now (first .entry)) ++ four code)) r ⌝ }
 {
-    let end = 27 + 2 * size;
     let last = bytes_of(code);
-    is_parts(&front[..end], &last, 283, slot)
+    is_parts(first, &last, CODE, slot)
 }
 
-fn recall(slot: &[u8], front: &[u8], size: usize, run: Run) -> Found
-    requires { ⌜ (length (now slot) ≡ 512) × (Padded (now front) size × Ticks (run .ticks)) ⌝ }
-    ensures { λ r. ⌜ Recalls (now (slot .entry)) (now (front .entry)) (runOf run) r ⌝ }
+fn recall(slot: &[u8], front: &[u8], end: usize, run: Run) -> Found
+    requires { ⌜ (length (now slot) ≡ 512) × (Cut (now front) end × Ticks (run .ticks)) ⌝ }
+    ensures { λ r. ⌜ Recalls (now (slot .entry)) (cleared (now (front .entry)) end) (runOf run) r ⌝ }
 {
     let code = code_in(slot);
     if code != NONE {
@@ -64,39 +63,28 @@ fn recall(slot: &[u8], front: &[u8], size: usize, run: Run) -> Found
             return Found::Nothing;
         }
     }
-    if is_entry(slot, front, size, code) {
+    if is_entry(slot, &front[..end], code) {
         Found::Code(code)
     } else {
         Found::Nothing
     }
 }
 
-fn look(book: &[u8], at: usize, front: &[u8], size: usize, run: Run) -> Found
-    requires { ⌜ (512 * suc at ≤ length (now book)) × (Padded (now front) size × Ticks (run .ticks)) ⌝ }
-    ensures { λ r. ⌜ Recalls (blockAt (now (book .entry)) at) (now (front .entry)) (runOf run) r ⌝ }
+pub(crate) fn look(book: &[u8], at: usize, front: &[u8], end: usize, run: Run) -> Found
+    requires { ⌜ (512 * suc at ≤ length (now book)) × (Cut (now front) end × Ticks (run .ticks)) ⌝ }
+    ensures { λ r. ⌜ Recalls (blockAt (now (book .entry)) at) (cleared (now (front .entry)) end) (runOf run) r ⌝ }
 {
     let from = 512 * at;
     let to = from + 512;
-    recall(&book[from..to], front, size, run)
-}
-
-// A question that is not laid out is not looked for.
-pub(crate) fn seek(laid: bool, book: &[u8], at: usize, front: &[u8], size: usize, run: Run) -> Found
-    requires { ⌜ (512 * suc at ≤ length (now book)) × (Ready laid (now front) size × Ticks (run .ticks)) ⌝ }
-    ensures { λ r. ⌜ Sought laid (blockAt (now (book .entry)) at) (now (front .entry)) (runOf run) r ⌝ }
-{
-    if !laid {
-        return Found::Nothing;
-    }
-    look(book, at, front, size, run)
+    recall(&book[from..to], front, end, run)
 }
 
 // The slot becomes the entry.
-pub(crate) fn keep(book: &mut [u8], at: usize, front: &[u8], size: usize, code: u32)
-    requires { ⌜ (512 * suc at ≤ length (now book)) × Padded (now front) size ⌝ }
-    ensures { λ _. ⌜ Keeps (now (book .entry)) (now (book .exit)) at (now (front .entry)) code ⌝ }
+pub(crate) fn keep(book: &mut [u8], at: usize, front: &[u8], end: usize, code: u32)
+    requires { ⌜ (512 * suc at ≤ length (now book)) × Cut (now front) end ⌝ }
+    ensures { λ _. ⌜ Keeps (now (book .entry)) (now (book .exit)) at (cleared (now (front .entry)) end) code ⌝ }
 {
     let from = 512 * at;
     let to = from + 512;
-    write_entry(front, size, code, &mut book[from..to]);
+    write_entry(&front[..end], code, &mut book[from..to]);
 }

@@ -3,7 +3,8 @@ use mathlib.Core.Path.{_≡_, refl, sym, ap, subst, _∙_}
 use mathlib.Core.Bool.{Bool, true, false, _&&_}
 use Prim.Native.Nat.{ℕ, zero, suc, _+_, _*_, _-_, _%_, _^_, _≤_, _<_}
 use native.Mathlib.Omega.{arith}
-use native.Mathlib.Nat.{one-mul, mul-one, mul-assoc, mul-comm, mul-right-comm, mul-pos, mul-le-mul-right, le-of-mul-le-mul-right, lt-of-le-of-lt, not-le-of-lt, le-of-lt, le-of-eq, le-trans, eq-of-mul-eq-mul-right}
+use native.Mathlib.Nat.{one-mul, mul-one, mul-assoc, mul-comm, mul-right-comm, mul-pos, eq-of-mul-eq-mul-right}
+use native.Mathlib.Nat.{mul-le-mul-right, le-of-mul-le-mul-right, lt-of-le-of-lt, not-le-of-lt, le-of-lt, le-of-eq, le-trans}
 use lib.Dec.{T, ltb, leb, eqb, ltb→lt, leb→le, eqb→eq, lit<, lit≤}
 use lib.Pow.{pow-add, pow-lt}
 use lib.IntN.{ℤ, pos, negsuc, natAbs, _*ℤ_}
@@ -12,9 +13,9 @@ use lib.Ieee.Fits.{and-l, and-r, down-pos, up-pos, mul-fits}
 use lib.Ieee.Exact.{HasValue, round-exact}
 use lib.Ieee.Back.{round-whole}
 use Rattle.whole.specs.Fraction.{Frac, whole}
-use Rattle.whole.proofs.Difference.{ring}
-use Rattle.intake.specs.Number.{signed, value, Is, grid, Within, Export}
-use Rattle.intake.proofs.Value.{signed-mul, size-within}
+use Rattle.whole.proofs.Difference.{all4, ring}
+use Rattle.intake.specs.Number.{signed, value, Is, grid, sixteenfold, Scaled, Within, Export}
+use Rattle.intake.proofs.Value.{signed-mul, size-within, ≈-sym, is-same, within-same}
 use Rattle.intake.proofs.Bits.{one-value}
 
 -- ---- what fits binary32: fewer than 25 digits, and no unit below 2^-149
@@ -42,52 +43,55 @@ pow-le i j h = not-more (λ g. not-le-of-lt (pow-lt g) h)
     not-more : (j < i → ⊥) → i ≤ j
     not-more f = omega arith
 
-shift : (n : ℕ) (e : ℤ) → down e ≤ 2 ^ n → (j : ℕ) × (2 ^ j * down e ≡ up e * 2 ^ n)
-shift n (pos k) h = (k + n, mul-one (2 ^ (k + n)) ∙ pow-add 2 k n)
-shift n (negsuc k) h =
+record Counted (n : ℕ) (e : ℤ) : Type 0 where
+  j : ℕ
+  is : 2 ^ j * down e ≡ up e * 2 ^ n
+
+counted : (n : ℕ) (e : ℤ) → down e ≤ 2 ^ n → Counted n e
+counted n (pos k) h = record { j = k + n; is = mul-one (2 ^ (k + n)) ∙ pow-add 2 k n }
+counted n (negsuc k) h =
     let l : suc k ≤ n = pow-le (suc k) n h in
     let s : (n - suc k) + suc k ≡ n = omega arith in
-    (n - suc k, sym (pow-add 2 (n - suc k) (suc k)) ∙ ap (λ (x : ℕ). 2 ^ x) s ∙ sym (one-mul (2 ^ n)))
+    record { j = n - suc k; is = sym (pow-add 2 (n - suc k) (suc k)) ∙ ap (λ (x : ℕ). 2 ^ x) s ∙ sym (one-mul (2 ^ n)) }
 
 like : (s : Bool) → unlike s false ≡ s
 like true = refl
 like false = refl
 
 -- ---- sixteen times a number within reach
--- in units of 2^-149, m of them 2^j times
-lift : (m U D N j : ℕ) → 2 ^ j * D ≡ U * 2 ^ 153 → N ≡ m * U * 16 → N * 2 ^ 149 ≡ m * 2 ^ j * D
-lift m U D N j h e =
-    ap (λ (x : ℕ). x * 2 ^ 149) e
-    ∙ mul-assoc (m * U) 16 (2 ^ 149)
-    ∙ mul-assoc m U (2 ^ 153)
-    ∙ ap (λ (x : ℕ). m * x) (sym h)
-    ∙ sym (mul-assoc m (2 ^ j) D)
+-- 16.0
+abbrev pub sixteen : Float
+sixteen = fin false 1 (pos 4)
 
-room : (m U D j : ℕ) → 0 < D → 2 ^ j * D ≡ U * 2 ^ 153 → m * U ≤ 1024 * D → m * 2 ^ j < 2 ^ 277
-room m U D j d h r =
-    let e : m * 2 ^ j * D ≡ m * U * 2 ^ 153 = mul-assoc m (2 ^ j) D ∙ ap (λ (x : ℕ). m * x) h ∙ sym (mul-assoc m U (2 ^ 153)) in
-    let l : m * 2 ^ j * D ≤ 1024 * 2 ^ 153 * D = le-trans (le-of-eq e) (le-trans (mul-le-mul-right (2 ^ 153) r) (le-of-eq (mul-right-comm 1024 D (2 ^ 153)))) in
-    lt-of-le-of-lt (le-of-mul-le-mul-right l d) (lit< tt)
+-- m·U/D, where U/D is 2^j of the units 2^-153: sixteen times that is m·2^j of the units 2^-149
+module _ (m U D j : ℕ) (is : 2 ^ j * D ≡ U * 2 ^ 153) where
+  shifted : m * 2 ^ j * D ≡ m * U * 2 ^ 153
+  shifted = mul-assoc m (2 ^ j) D ∙ ap (λ (x : ℕ). m * x) is ∙ sym (mul-assoc m U (2 ^ 153))
 
-scaled-at : (s : Bool) (m : ℕ) (e : ℤ) → m < 2 ^ 24 → ((j : ℕ) × (2 ^ j * down e ≡ up e * 2 ^ 153)) → m * up e ≤ 1024 * down e
-    → HasValue (mul binary32 (fin s m e) (fin false 1 (pos 4))) s (m * up e * 16) (down e * 1)
+  lift : m * U * 16 * 2 ^ 149 ≡ m * 2 ^ j * D
+  lift = mul-assoc (m * U) 16 (2 ^ 149) ∙ sym shifted
+
+  room : 0 < D → m * U ≤ 1024 * D → m * 2 ^ j < 2 ^ 277
+  room d r =
+      let most : m * U * 2 ^ 153 ≤ 1024 * 2 ^ 153 * D = le-trans (mul-le-mul-right (2 ^ 153) r) (le-of-eq (mul-right-comm 1024 D (2 ^ 153))) in
+      lt-of-le-of-lt (le-of-mul-le-mul-right (le-trans (le-of-eq shifted) most) d) (lit< tt)
+
+scaled-at : (s : Bool) (m : ℕ) (e : ℤ) → m < 2 ^ 24 → Counted 153 e → m * up e ≤ 1024 * down e → HasValue (mul binary32 (fin s m e) sixteen) s (m * up e * 16) (down e * 1)
 unfolding mul
-scaled-at s m e small sh r =
-    let d : 0 < down e * 1 = mul-pos (down-pos e) (lit< tt) in
-    let h : 2 ^ (sh .0) * (down e * 1) ≡ up e * 2 ^ 153 = ap (λ (x : ℕ). 2 ^ (sh .0) * x) (mul-one (down e)) ∙ sh .1 in
-    subst (λ (t : Bool). HasValue (round binary32 (unlike s false) (m * up e * 16) (down e * 1)) t (m * up e * 16) (down e * 1)) (like s)
-    (round-exact binary32 (unlike s false) (m * up e * 16) (down e * 1) m (sh .0) d small
-    (room m (up e) (down e * 1) (sh .0) d h (le-trans r (le-of-eq (ap (λ (x : ℕ). 1024 * x) (sym (mul-one (down e)))))))
-    (lift m (up e) (down e * 1) (m * up e * 16) (sh .0) h refl))
+scaled-at s m e small n r =
+    let N = m * up e * 16 in
+    let D = down e * 1 in
+    let d : 0 < D = mul-pos (down-pos e) (lit< tt) in
+    let one = sym (mul-one (down e)) in
+    let h : 2 ^ (n .j) * D ≡ up e * 2 ^ 153 = ap (λ (x : ℕ). 2 ^ (n .j) * x) (sym one) ∙ n .is in
+    let fine = room m (up e) D (n .j) h d (le-trans r (le-of-eq (ap (λ (x : ℕ). 1024 * x) one))) in
+    subst (λ (t : Bool). HasValue (round binary32 (unlike s false) N D) t N D) (like s)
+    (round-exact binary32 (unlike s false) N D m (n .j) d small fine (lift m (up e) D (n .j) h))
 
 unit-fine : (s : Bool) (m : ℕ) (e : ℤ) → T (fits binary32 (fin s m e)) → down e ≤ 2 ^ 153
 unfolding fits
 unit-fine s zero e t = le-trans (le-trans (le-of-eq (sym (one-mul (down e)))) (le-trans (mul-le-mul-right (down e) (up-pos e)) (le-of-eq (eqb→eq (up e * down e) 1 t)))) (lit≤ tt)
 unit-fine s (suc m) e t = le-trans (fine s m e t) (lit≤ tt)
-
--- sixteen times a value
-abbrev pub sixteenfold : Frac → Frac
-sixteenfold v = record { num = v .num *ℤ pos 16; den = v .den; some = v .some }
 
 -- a number with a size and a sign has that value
 pub has-is : (y : Float) (s : Bool) (a c : ℕ) (v : Frac) → HasValue y s a c → v .num ≡ signed s a → v .den ≡ pos c → Is y v
@@ -96,12 +100,23 @@ has-is (inf t) s a c v h p q = h
 has-is (fin t m e) s a c v h p q =
     rw (p, q, h .0, ← signed-mul s (m * up e) c, h .1) (signed-mul s a (down e))
 
-pub scaled : (s : Bool) (m : ℕ) (e : ℤ) → T (fits binary32 (fin s m e)) → Within (value s m e) → Is (mul binary32 (fin s m e) (fin false 1 (pos 4))) (sixteenfold (value s m e))
-scaled s m e f w =
-    has-is (mul binary32 (fin s m e) (fin false 1 (pos 4))) s (m * up e * 16) (down e * 1) (sixteenfold (value s m e))
-    (scaled-at s m e (digits s m e f) (shift 153 e (unit-fine s m e f)) (size-within 1023 s (m * up e) (down e) (w .least) (w .most)))
+by-value : (s : Bool) (m : ℕ) (e : ℤ) → T (fits binary32 (fin s m e)) → Within (value s m e) → Is (mul binary32 (fin s m e) sixteen) (sixteenfold (value s m e))
+by-value s m e f w =
+    has-is (mul binary32 (fin s m e) sixteen) s (m * up e * 16) (down e * 1) (sixteenfold (value s m e))
+    (scaled-at s m e (digits s m e f) (counted 153 e (unit-fine s m e f)) (size-within 1023 s (m * up e) (down e) (w .least) (w .most)))
     (sym (signed-mul s (m * up e) 16))
     (ap pos (sym (mul-one (down e))))
+
+times-same : (a b c d : ℤ) → a *ℤ b ≡ c *ℤ d → (a *ℤ pos 16) *ℤ b ≡ (c *ℤ pos 16) *ℤ d
+times-same = all4 _ λ a a′ b b′ c c′ d d′. simp ring (omega arith)
+
+pub exact : (x : Float) → T (fits binary32 x) → Scaled x (mul binary32 x sixteen)
+exact nan f v i w = absurd i
+exact (inf s) f v i w = absurd i
+exact (fin s m e) f v i w =
+    let u = value s m e in
+    is-same (mul binary32 (fin s m e) sixteen) (sixteenfold u) (sixteenfold v) (times-same (u .num) (v .den) (v .num) (u .den) i)
+    (by-value s m e f (within-same v u (≈-sym u v i) w))
 
 -- ---- a whole number of at most 24 digits
 -- its sign, zero's being plus

@@ -6,6 +6,7 @@ use Prim.Native.Nat.{ℕ, _+_, _*_, _≤_, _<_}
 use native.Mathlib.Omega.{arith}
 use lib.IntN.{ℤ, pos}
 use lib.ListN.{length, getD, set, take, length-set}
+use lib.Ieee.{Float}
 use lib.Seq.{getD-set-same, getD-set-other, getD-take, length-take-le}
 use borrow.Author.Count.{below-more}
 use Rattle.whole.specs.Front.{Front, fronted}
@@ -22,24 +23,39 @@ use Rattle.intake.specs.declared.Corner.{Corner}
 use Rattle.intake.specs.Number.{Answer}
 use Rattle.intake.specs.Footprint.{cornerAt, cornersChecks, intakeChecks, Holds, Later}
 
+-- a number that is taken as k is taken as what equals k
+pub taken : (v : Float) {j k : ℤ} → j ≡ k → Answer v (Grid k) → Answer v (Grid j)
+taken v e = subst (λ (z : ℤ). Answer v (Grid z)) (sym e)
+
 -- ---- one more corner into a list
 module _ (cs : List Corner) (i : ℕ) (l : List ℤ) (x y : ℤ) where
-  pub hold-more : 2 * i + 1 < length l → Holds cs i l → Answer (cornerAt cs i .x) (Grid x) → Answer (cornerAt cs i .y) (Grid y) → Holds cs (i + 1) (set (set l (2 * i) x) (2 * i + 1) y)
-  hold-more h f a b =
-      record {
-        x = below-more (λ k. Answer (cornerAt cs k .x) (Grid (getD later (2 * k) (pos 0)))) i
-            (λ k lt. subst (λ (z : ℤ). Answer (cornerAt cs k .x) (Grid z)) (sym (getD-set-other first (2 * i + 1) (2 * k) y (pos 0) (omega arith) ∙ getD-set-other l (2 * i) (2 * k) x (pos 0) (omega arith))) (f .x k lt))
-            (subst (λ (z : ℤ). Answer (cornerAt cs i .x) (Grid z)) (sym (getD-set-other first (2 * i + 1) (2 * i) y (pos 0) (omega arith) ∙ getD-set-same l (2 * i) x (pos 0) (omega arith))) a);
-        y = below-more (λ k. Answer (cornerAt cs k .y) (Grid (getD later (2 * k + 1) (pos 0)))) i
-            (λ k lt. subst (λ (z : ℤ). Answer (cornerAt cs k .y) (Grid z)) (sym (getD-set-other first (2 * i + 1) (2 * k + 1) y (pos 0) (omega arith) ∙ getD-set-other l (2 * i) (2 * k + 1) x (pos 0) (omega arith))) (f .y k lt))
-            (subst (λ (z : ℤ). Answer (cornerAt cs i .y) (Grid z)) (sym (getD-set-same first (2 * i + 1) y (pos 0) (simp length-set h))) b);
-      }
-    where
-      first : List ℤ
-      first = set l (2 * i) x
+  abbrev first : List ℤ
+  first = set l (2 * i) x
 
-      later : List ℤ
-      later = set first (2 * i + 1) y
+  abbrev later : List ℤ
+  later = set first (2 * i + 1) y
+
+  -- the numbers before it stay
+  kept : (j : ℕ) → j < 2 * i → getD later j (pos 0) ≡ getD l j (pos 0)
+  kept j h = getD-set-other first (2 * i + 1) j y (pos 0) (omega arith) ∙ getD-set-other l (2 * i) j x (pos 0) (omega arith)
+
+  module _ (room : 2 * i + 1 < length l) where
+    x-there : getD later (2 * i) (pos 0) ≡ x
+    x-there = getD-set-other first (2 * i + 1) (2 * i) y (pos 0) (omega arith) ∙ getD-set-same l (2 * i) x (pos 0) (omega arith)
+
+    y-there : getD later (2 * i + 1) (pos 0) ≡ y
+    y-there = getD-set-same first (2 * i + 1) y (pos 0) (simp length-set room)
+
+    pub hold-more : Holds cs i l → Answer (cornerAt cs i .x) (Grid x) → Answer (cornerAt cs i .y) (Grid y) → Holds cs (i + 1) later
+    hold-more f a b =
+        record {
+          x = below-more (λ k. Answer (cornerAt cs k .x) (Grid (getD later (2 * k) (pos 0)))) i
+              (λ k h. taken (cornerAt cs k .x) (kept (2 * k) (omega arith)) (f .x k h))
+              (taken (cornerAt cs i .x) x-there a);
+          y = below-more (λ k. Answer (cornerAt cs k .y) (Grid (getD later (2 * k + 1) (pos 0)))) i
+              (λ k h. taken (cornerAt cs k .y) (kept (2 * k + 1) (omega arith)) (f .y k h))
+              (taken (cornerAt cs i .y) y-there b);
+        }
 
 -- ---- what the checks find
 pub holds-pass : (cs : List Corner) (n : ℕ) (l : List ℤ) → Holds cs n l → Passes (cornersChecks cs n)
@@ -83,8 +99,8 @@ module _ (cs : List Corner) (n : ℕ) (l before : List ℤ) (all : length l ≡ 
   pub put-later : Holds cs n l → Later cs n before Good (fronted front before)
   put-later h = (
     record {
-      x = λ i lt. subst (λ (z : ℤ). Answer (cornerAt cs i .x) (Grid z)) (sym (holds-at (2 * i) (omega arith))) (h .x i lt);
-      y = λ i lt. subst (λ (z : ℤ). Answer (cornerAt cs i .y) (Grid z)) (sym (holds-at (2 * i + 1) (omega arith))) (h .y i lt);
+      x = λ i lt. taken (cornerAt cs i .x) (holds-at (2 * i) (omega arith)) (h .x i lt);
+      y = λ i lt. taken (cornerAt cs i .y) (holds-at (2 * i + 1) (omega arith)) (h .y i lt);
     },
     record { size = laid .stays .size; rest = λ j g. laid .stays .rest j (omega (arith, long)) },
   )

@@ -4,6 +4,7 @@ pub mod Exact
 pub mod Raised
 pub mod Whole
 pub mod Number
+pub mod Given
 pub mod Once
 pub mod Footprint
 pub mod Examples

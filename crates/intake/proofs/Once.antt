@@ -18,14 +18,13 @@ use Rattle.rules.specs.Reach.{Corners}
 use Rattle.rules.specs.Refusal as rules
 use Rattle.rules.specs.Refusal.{refuse}
 use Rattle.rules.proofs.Checks.{Sharp, AllSharp, sharp-demand, sharp-rows}
-use Rattle.refusal.specs.Said.{Writes}
 use Rattle.refusal.specs.declared.Checked.{Checked}
 use Rattle.refusal.specs.declared.Checked.the-variants.{Good, Refused}
 use Rattle.intake.specs.declared.Corner.{Corner}
 use Rattle.intake.specs.declared.Taken.{Taken}
 use Rattle.intake.specs.declared.Taken.the-variants.{Grid, OffGrid, NotNumber, Beyond}
 use Rattle.intake.specs.Number.{value, grid, Off, Export, Worth, Answer}
-use Rattle.intake.specs.Footprint.{putChecks, Row, numberCheck, cornerAt, cornersChecks, intakeChecks, Holds, Later, Intake}
+use Rattle.intake.specs.Footprint.{putChecks, Put, Row, numberCheck, cornerAt, cornersChecks, intakeChecks, Holds, Later, Intake}
 use Rattle.intake.proofs.Value.{≈-≼, ≈-sym}
 use Rattle.intake.proofs.Bits.{one-value}
 use Rattle.intake.proofs.Exact.{minus, export-has}
@@ -101,11 +100,15 @@ half : (j : ℕ) → (j ≡ 2 * (j / 2)) ⊎ (j ≡ 2 * (j / 2) + 1)
 half j = ⊎-elim (λ (h : j ≤ 2 * (j / 2)). inl (omega arith)) (λ (h : 2 * (j / 2) < j). inr (omega arith)) (ℕ-or j (2 * (j / 2)))
 
 module _ (cs : List Corner) (n : ℕ) (before l m : List ℤ) where
-  same-at : Holds cs n l → Holds cs n m → (j : ℕ) → j < 2 * n → getD l j (pos 0) ≡ getD m j (pos 0)
+  abbrev Alike : ℕ → Type 0
+  Alike j = getD l j (pos 0) ≡ getD m j (pos 0)
+
+  same-at : Holds cs n l → Holds cs n m → (j : ℕ) → j < 2 * n → Alike j
   same-at h i j lt =
+      let c = j / 2 in
       ⊎-elim
-      (λ (e : j ≡ 2 * (j / 2)). subst (λ (k : ℕ). getD l k (pos 0) ≡ getD m k (pos 0)) (sym e) (same-grid (cornerAt cs (j / 2) .x) _ _ (h .x (j / 2) (omega arith)) (i .x (j / 2) (omega arith))))
-      (λ (e : j ≡ 2 * (j / 2) + 1). subst (λ (k : ℕ). getD l k (pos 0) ≡ getD m k (pos 0)) (sym e) (same-grid (cornerAt cs (j / 2) .y) _ _ (h .y (j / 2) (omega arith)) (i .y (j / 2) (omega arith))))
+      (λ (e : j ≡ 2 * c). subst Alike (sym e) (same-grid (cornerAt cs c .x) _ _ (h .x c (omega arith)) (i .x c (omega arith))))
+      (λ (e : j ≡ 2 * c + 1). subst Alike (sym e) (same-grid (cornerAt cs c .y) _ _ (h .y c (omega arith)) (i .y c (omega arith))))
       (half j)
 
   one-later : (r : Checked) → Later cs n before r l → Later cs n before r m → l ≡ m
@@ -119,5 +122,5 @@ module _ (cs : List Corner) (n : ℕ) (before l m : List ℤ) where
       (e, one-later s (subst (λ (q : Checked). Later cs n before q l) e (h .list)) (i .list))
 
 -- numbers into a lent list
-pub put-one : (numbers before a b : List ℤ) (r s : Checked) → Writes (putChecks numbers before) (fronted numbers before) before a r → Writes (putChecks numbers before) (fronted numbers before) before b s → (r ≡ s) × (a ≡ b)
+pub put-one : (numbers before a b : List ℤ) (r s : Checked) → Put numbers before r a → Put numbers before s b → (r ≡ s) × (a ≡ b)
 put-one numbers before = writes-one (putChecks numbers before) (sharp-demand _ _, tt) (fronted numbers before) before

@@ -9,12 +9,12 @@ use lib.Signed.{_≤ℤ_, _<ℤ_}
 use lib.Ieee.{Float, nan, inf, fin, below, level, lt, eq, up, down}
 use lib.Ieee.Fits.{and-l, and-r, and-i, eq→eqb}
 use borrow.Author.Tests.{ltb-true, ltb-false}
-use Rattle.whole.specs.Fraction.{Frac, _≼_, _≺_, _≈_}
+use Rattle.whole.specs.Fraction.{Frac, _≼_, _≺_, _≈_, whole}
 use Rattle.whole.proofs.Difference.{_⊖_, pos-⊖, neg-⊖, ring}
 use Rattle.whole.proofs.Order.{antisym, eq-le}
 use Rattle.whole.proofs.Flag.{yes-of, no-of}
 use Rattle.whole.proofs.Fraction.{trans, le-then-lt, lt-then-le}
-use Rattle.intake.specs.Number.{signed, value, Is}
+use Rattle.intake.specs.Number.{signed, value, Is, Within}
 
 -- ---- a signed size
 pub minus-⊖ : (a : ℕ) → signed true a ≡ 0 ⊖ a
@@ -79,12 +79,28 @@ pub ≈-sym : (s t : Frac) → s ≈ t → t ≈ s
 pub ≈-of : (s t : Frac) → s ≼ t → t ≼ s → s ≈ t
 ≈-of s t h k = antisym _ _ h k
 
+pub ≈-trans : (s t u : Frac) → s ≈ t → t ≈ u → s ≈ u
+≈-trans s t u h k = ≈-of s u (trans s t u (≈-≼ s t h) (≈-≼ t u k)) (trans u t s (≈-≼ u t (≈-sym t u k)) (≈-≼ t s (≈-sym s t h)))
+
 module _ (x y u v : Frac) (p : x ≈ u) (q : y ≈ v) where
   pub ≺-by : x ≺ y → u ≺ v
   ≺-by h = le-then-lt u x v (≈-≼ u x (≈-sym x u p)) (lt-then-le x y v h (≈-≼ y v q))
 
   pub ≼-by : x ≼ y → u ≼ v
   ≼-by h = trans u x v (≈-≼ u x (≈-sym x u p)) (trans x y v h (≈-≼ y v q))
+
+-- ---- a value may be written in any way
+pub is-same : (x : Float) (u v : Frac) → u ≈ v → Is x u → Is x v
+is-same nan u v e i = i
+is-same (inf s) u v e i = i
+is-same (fin s m e) u v h i = ≈-trans (value s m e) u v i h
+
+pub within-same : (u v : Frac) → u ≈ v → Within u → Within v
+within-same u v e w =
+    record {
+      least = trans (whole (negsuc 1023)) u v (w .least) (≈-≼ u v e);
+      most = trans v u (whole (pos 1024)) (≈-≼ v u (≈-sym u v e)) (w .most);
+    }
 
 -- ---- the comparison of two finite numbers is that of their values
 cross : (s : Bool) (m : ℕ) (e d : ℤ) → signed s (m * up e * down d) ≡ value s m e .num *ℤ pos (down d)
@@ -112,8 +128,10 @@ module _ (u v : Frac) where
   pub eq-yes : (x y : Float) → Is x u → Is y v → eq x y ≡ true → u ≈ v
   unfolding eq
   eq-yes (fin s m e) (fin t n d) p q h =
-      let w : value s m e ≈ value t n d = rw (cross s m e d, cross t n d e) at (level-yes s (m * up e * down d) t (n * up d * down e) (yes-of (eq (fin s m e) (fin t n d)) h)) in
-      ≈-of u v (≼-by (value s m e) (value t n d) u v p q (≈-≼ (value s m e) (value t n d) w)) (≼-by (value t n d) (value s m e) v u q p (≈-≼ (value t n d) (value s m e) (≈-sym (value s m e) (value t n d) w)))
+      let x = value s m e in
+      let y = value t n d in
+      let w : x ≈ y = rw (cross s m e d, cross t n d e) at (level-yes s (m * up e * down d) t (n * up d * down e) (yes-of (eq (fin s m e) (fin t n d)) h)) in
+      ≈-of u v (≼-by x y u v p q (≈-≼ x y w)) (≼-by y x v u q p (≈-≼ y x (≈-sym x y w)))
   eq-yes (fin s m e) nan p q h = absurd q
   eq-yes (fin s m e) (inf t) p q h = absurd q
   eq-yes nan y p q h = absurd p

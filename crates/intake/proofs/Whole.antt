@@ -15,15 +15,15 @@ use lib.Ieee.Nearest.{closest}
 use Rattle.whole.specs.Fraction.{Frac, _≺_, whole}
 use Rattle.whole.proofs.Difference.{all, all3, ring}
 use Rattle.whole.proofs.Order.{lt-le}
-use Rattle.whole.proofs.Range.{abs-by, abs-sub, fits, field}
+use Rattle.whole.proofs.Range.{abs-by, abs-add, fits, field}
 use Rattle.whole.proofs.Fraction.{trans, le-then-lt, lt-then-le}
-use Rattle.intake.specs.Number.{signed, value, Is, Scaled, AtOrBelow}
+use Rattle.intake.specs.Number.{signed, value, Is, Bounded, AtOrBelow}
 use Rattle.intake.proofs.Value.{minus-⊖, size-within, ≈-≼, ≈-sym, lt-yes, lt-no}
 use Rattle.intake.proofs.Exact.{int-is}
 use Rattle.intake.proofs.Raised.{raise, lifted, Raised, raised}
 
 -- ---- its size
-sized : (s : Bool) (m : ℕ) (e : ℤ) → Scaled (fin s m e) → m * up e ≤ 16384 * down e
+sized : (s : Bool) (m : ℕ) (e : ℤ) → Bounded (fin s m e) → m * up e ≤ 16384 * down e
 sized s m e r =
     let v = value s m e in
     let w = r .worth in
@@ -52,8 +52,11 @@ down-low = all3 _ λ q q′ d d′ a a′. simp ring (omega arith)
 down-high : (q d a : ℤ) → (a +ℤ (pos 12582912 *ℤ d)) <ℤ ((q +ℤ pos 1) *ℤ d) → (a *ℤ pos 1) <ℤ (((q -ℤ pos 12582912) +ℤ pos 1) *ℤ d)
 down-high = all3 _ λ q q′ d d′ a a′. simp ring (omega arith)
 
-down-small : (q : ℤ) → pos 12566528 ≤ℤ q → q ≤ℤ pos 12599296 → (negsuc 16383 ≤ℤ (q -ℤ pos 12582912)) × ((q -ℤ pos 12582912) ≤ℤ pos 16384)
-down-small = all _ λ q q′. simp ring (omega arith)
+down-least : (q : ℤ) → pos 12566528 ≤ℤ q → negsuc 16383 ≤ℤ (q -ℤ pos 12582912)
+down-least = all _ λ q q′. simp ring (omega arith)
+
+down-most : (q : ℤ) → q ≤ℤ pos 12599296 → (q -ℤ pos 12582912) ≤ℤ pos 16384
+down-most = all _ λ q q′. simp ring (omega arith)
 
 -- the same of the sum over d
 sum-low : (s : Bool) (a d q : ℕ) → a ≤ 16384 * d → q * d < lifted s a d + d → (pos q *ℤ pos d) <ℤ ((signed s a +ℤ (pos 12582912 *ℤ pos d)) +ℤ pos d)
@@ -70,24 +73,27 @@ brought s m e q k r =
     let d = down e in
     let l = r .least in
     let h = r .most in
-    let b = down-small (pos q) (simp ring (omega arith)) (simp ring (omega arith)) in
     record {
-      small = abs-by 16384 (pos q -ℤ pos 12582912) (b .0) (b .1);
+      small = abs-by 16384 (pos q -ℤ pos 12582912) (down-least (pos q) (simp ring (omega arith))) (down-most (pos q) (simp ring (omega arith)));
       low = down-low (pos q) (pos d) (signed s a) (sum-low s a d q k (r .low));
       high = down-high (pos q) (pos d) (signed s a) (sum-high s a d q k (r .high));
     }
 
 -- what the cast asks, and what it reads
-asked : (q : ℕ) → q ≤ 12599296 → T (inSigned binary32 31 (ofInt binary32 (pos q))) × (toSigned 31 (ofInt binary32 (pos q)) ≡ pos q)
-unfolding inFloat
-asked q h = positive-back binary32 31 q (le→leb q (2 ^ 24) (omega arith)) (omega arith)
+record Cast (q : ℕ) : Type 0 where
+  asked : T (inSigned binary32 31 (ofInt binary32 (pos q)))
+  told : toSigned 31 (ofInt binary32 (pos q)) ≡ pos q
 
-pub asks : (g : Float) → Scaled g → T (inSigned binary32 31 (add binary32 g raise))
+cast-whole : (q : ℕ) → q ≤ 12599296 → Cast q
+unfolding inFloat
+cast-whole q h = let b = positive-back binary32 31 q (le→leb q (2 ^ 24) (omega arith)) (omega arith) in record { asked = b .0; told = b .1 }
+
+pub asks : (g : Float) → Bounded g → T (inSigned binary32 31 (add binary32 g raise))
 asks nan r = absurd (r .is)
 asks (inf s) r = absurd (r .is)
-asks (fin s m e) r = let u = raised s m e (sized s m e r) in rw (u .is) (asked _ (u .most) .0)
+asks (fin s m e) r = let u = raised s m e (sized s m e r) in rw (u .is) (cast-whole _ (u .most) .asked)
 
-pub near : (g : Float) → Scaled g → (v : Frac) → Is g v → Near v (next g)
+pub near : (g : Float) → Bounded g → (v : Frac) → Is g v → Near v (next g)
 near nan r v i = absurd i
 near (inf s) r v i = absurd i
 near (fin s m e) r v i =
@@ -95,7 +101,7 @@ near (fin s m e) r v i =
     let q = closest (lifted s (m * up e) (down e)) (down e) in
     let u = raised s m e (sized s m e r) in
     let n = brought s m e q (sized s m e r) u in
-    rw (u .is, asked q (u .most) .1)
+    rw (u .is, cast-whole q (u .most) .told)
     record {
       small = n .small;
       low = lt-then-le (whole ((pos q -ℤ pos 12582912) -ℤ pos 1)) x v (n .low) (≈-≼ x v i);
@@ -117,7 +123,7 @@ floor-less g v t i n e =
     back = all _ λ a a′. simp ring (omega arith)
 
 -- ---- what the machine makes of it: read back
-pub next-small : (g : Float) → Scaled g → natAbs (next g) ≤ 16384
+pub next-small : (g : Float) → Bounded g → natAbs (next g) ≤ 16384
 next-small g r = near g r (r .worth) (r .is) .small
 
 pub cast-read : (g : Float) → toZ w32 (ofZ w32 (cast g)) ≡ cast g
@@ -131,5 +137,5 @@ unfolding inFloat
 in-float (pos n) h = le→leb n (2 ^ 24) (omega arith)
 in-float (negsuc n) h = lt→ltb n (2 ^ 24) (omega arith)
 
-pub less-fits : (t : ℤ) → natAbs t ≤ 16384 → SFits w32 (t -ℤ pos 1)
-less-fits t h = fits w32 (t -ℤ pos 1) (omega (arith, abs-sub t (pos 1)))
+pub sum-fits : (t k : ℤ) → natAbs t ≤ 16384 → natAbs k ≤ 16384 → SFits w32 (t +ℤ k)
+sum-fits t k h l = fits w32 (t +ℤ k) (omega (arith, abs-add t k))

@@ -5,11 +5,11 @@ use Prim.Native.Nat.{ℕ, _+_, _*_, _<_, _≤_}
 use lib.IntN.{ℤ, pos}
 use lib.ListN.{length, getD}
 use lib.Ieee.{Float, nan}
-use Rattle.whole.specs.Front.{Stays}
+use Rattle.whole.specs.Front.{Stays, fronted}
 use Rattle.rules.specs.Reach.{Corners}
 use Rattle.rules.specs.Refusal as rules
 use Rattle.rules.specs.Refusal.{Check, Fault, demand, refuse, rows}
-use Rattle.refusal.specs.Said.{said, Finds}
+use Rattle.refusal.specs.Said.{said, Finds, Writes}
 use Rattle.refusal.specs.declared.Refusal.{Refusal}
 use Rattle.refusal.specs.declared.Checked.{Checked}
 use Rattle.refusal.specs.declared.Checked.the-variants.{Good, Refused}
@@ -65,6 +65,10 @@ pub record Intake (cs : List Corner) (n : ℕ) (before : List ℤ) (r : Checked)
 -- ---- numbers into a lent list, which must be at least as long
 abbrev pub putChecks : List ℤ → List ℤ → List Check
 putChecks numbers before = demand (length numbers ≤ length before) (refuse 10 0 0) ∷ []
+
+-- what is answered, and what the lent list holds: the numbers and then its own later elements, or what it held
+abbrev pub Put : List ℤ → List ℤ → Checked → List ℤ → Type 0
+Put numbers before r later = Writes (putChecks numbers before) (fronted numbers before) before later r
 
 -- ---- the steps
 -- r is the refusal of an answer that is not taken

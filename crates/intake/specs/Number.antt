@@ -3,7 +3,7 @@ use mathlib.Core.Path.{_≡_}
 use mathlib.Core.Bool.{Bool, true, false}
 use Prim.Native.Nat.{ℕ, _*_}
 use lib.Dec.{T, lt→ltb}
-use lib.IntN.{ℤ, pos, negsuc, negℤ, _+ℤ_}
+use lib.IntN.{ℤ, pos, negsuc, negℤ, _+ℤ_, _*ℤ_}
 use lib.Ieee.{Float, nan, inf, fin, binary32, fits, up, down}
 use lib.Ieee.Fits.{down-pos}
 use Rattle.whole.specs.Fraction.{Frac, _≼_, _≺_, _≈_, whole}
@@ -60,9 +60,17 @@ Answer nan t = t ≡ NotNumber
 Answer (inf s) t = t ≡ Beyond
 Answer (fin s m e) t = Worth (value s m e) t
 
+-- sixteen times a value
+abbrev pub sixteenfold : Frac → Frac
+sixteenfold v = record { num = v .num *ℤ pos 16; den = v .den; some = v .some }
+
+-- where x is within reach, g is sixteen times x, exactly
+abbrev pub Scaled : Float → Float → Type 0
+Scaled x g = (v : Frac) → Is x v → Within v → Is g (sixteenfold v)
+
 -- ---- the steps
--- sixteen times a number within reach: -16,384 to 16,384
-pub record Scaled (g : Float) : Type 0 where
+-- g is finite, and from -16,384 to 16,384, as sixteen times a number within reach is
+pub record Bounded (g : Float) : Type 0 where
   pub worth : Frac
   pub is : Is g worth
   pub least : whole (negsuc 16383) ≼ worth

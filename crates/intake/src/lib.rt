@@ -2,10 +2,8 @@
 use refusal::Checked;
 use refusal::Refusal;
 ghost use Prim.Native.Nat.{_≤_};
-ghost use Rattle.whole.specs.Front.{fronted};
-ghost use Rattle.refusal.specs.Said.{Writes};
-ghost use Rattle.intake.specs.Number.{Scaled, Floored, Answer};
-ghost use Rattle.intake.specs.Footprint.{putChecks, Refuses, Paired, Gathered, Intake};
+ghost use Rattle.intake.specs.Number.{Scaled, Bounded, Floored, Answer};
+ghost use Rattle.intake.specs.Footprint.{Put, Refuses, Paired, Gathered, Intake};
 
 // A corner as exported.
 pub struct Corner {
@@ -21,9 +19,16 @@ pub enum Taken {
     Beyond,
 }
 
+// Sixteen times a number: exact where it is within reach.
+fn sixteenfold(x: f32) -> f32
+    ensures { λ r. ⌜ Scaled x r ⌝ }
+{
+    x * 16.0
+}
+
 // The whole number at or below a scaled number. From 2^23 to 2^24 binary32 has the whole numbers only, so the sum is rounded to one next to it.
 fn floor(scaled: f32) -> i32
-    requires { ⌜ Scaled scaled ⌝ }
+    requires { ⌜ Bounded scaled ⌝ }
     ensures { λ r. ⌜ Floored scaled r ⌝ }
 {
     let raised = scaled + 12582912.0;
@@ -32,7 +37,7 @@ fn floor(scaled: f32) -> i32
     if back > scaled { next - 1 } else { next }
 }
 
-// One number. Within reach, sixteen times it is exact.
+// One number.
 pub fn take(x: f32) -> Taken
     ensures { λ r. ⌜ Answer x r ⌝ }
 {
@@ -45,7 +50,7 @@ pub fn take(x: f32) -> Taken
     if x > 1024.0 {
         return Taken::Beyond;
     }
-    let scaled = x * 16.0;
+    let scaled = sixteenfold(x);
     let k = floor(scaled);
     let back = k as f32;
     if back == scaled {
@@ -54,15 +59,14 @@ pub fn take(x: f32) -> Taken
     Taken::OffGrid(back * 0.0625)
 }
 
-// The refusal of a number that is not taken; a grid number has none, and is not asked about.
+// The refusal of a number that is not taken: not a number, out of reach, or else off grid. A grid number is not asked about.
 fn refused(answer: Taken, corner: usize, axis: usize) -> Refusal
     ensures { λ r. ⌜ Refuses answer corner axis r ⌝ }
 {
     match answer {
         Taken::NotNumber => Refusal::NotNumber(corner, axis),
         Taken::Beyond => Refusal::Beyond(corner, axis),
-        Taken::OffGrid(_) => Refusal::OffGrid(corner, axis),
-        Taken::Grid(_) => Refusal::OffGrid(corner, axis),
+        _ => Refusal::OffGrid(corner, axis),
     }
 }
 
@@ -88,13 +92,13 @@ fn pair(corner: Corner, i: usize) -> Numbers
 }
 
 // What a look at every corner finds, and the grid numbers where all are good.
-struct Found {
+struct Gathering {
     checked: Checked,
     numbers: [i32; 128],
 }
 
 // The corners in their order, into numbers of our own.
-fn gather(corners: [Corner; 64], count: usize) -> Found
+fn gather(corners: [Corner; 64], count: usize) -> Gathering
     requires { ⌜ count ≤ 64 ⌝ }
     ensures { λ r. ⌜ Gathered corners count (r .checked) (r .numbers) ⌝ }
 {
@@ -108,7 +112,7 @@ fn gather(corners: [Corner; 64], count: usize) -> Found
                 numbers[2 * i + 1] = y;
             }
             Numbers::Refused(r) => {
-                return Found {
+                return Gathering {
                     checked: Checked::Refused(r),
                     numbers,
                 };
@@ -116,7 +120,7 @@ fn gather(corners: [Corner; 64], count: usize) -> Found
         }
         i += 1;
     }
-    Found {
+    Gathering {
         checked: Checked::Good,
         numbers,
     }
@@ -124,7 +128,7 @@ fn gather(corners: [Corner; 64], count: usize) -> Found
 
 // Numbers into a lent list, from its begin on.
 pub fn put(numbers: &[i32], list: &mut [i32]) -> Checked
-    ensures { λ r. ⌜ Writes (putChecks (now (numbers .entry)) (now (list .entry))) (fronted (now (numbers .entry)) (now (list .entry))) (now (list .entry)) (now (list .exit)) r ⌝ }
+    ensures { λ r. ⌜ Put (now (numbers .entry)) (now (list .entry)) r (now (list .exit)) ⌝ }
 {
     if list.len() < numbers.len() {
         return Checked::Refused(Refusal::Short);
@@ -150,11 +154,11 @@ pub fn intake(corners: [Corner; 64], count: usize, list: &mut [i32]) -> Checked
     if list.len() < 2 * count {
         return Checked::Refused(Refusal::Short);
     }
-    let found = gather(corners, count);
-    let checked = found.checked;
+    let all = gather(corners, count);
+    let checked = all.checked;
     let Checked::Good = checked else {
         return checked;
     };
-    let numbers = found.numbers;
+    let numbers = all.numbers;
     put(&numbers[..2 * count], list)
 }

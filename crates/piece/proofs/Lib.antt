@@ -1,13 +1,7 @@
+pub mod Steps
 pub mod Moving
 pub mod Touch
 pub mod Tells
-pub mod Decide
-pub mod Steps
-pub mod Shape
-pub mod Back
-pub mod Outline
-pub mod Table
-pub mod Pairs
 pub mod Finds
 pub mod Scan
 pub mod Unique

@@ -67,7 +67,16 @@ module _ (N D : ℕ) (s : Span) (h : Tame N D s) where
       (λ e. by-flag (Tame N D) (ltZ a (pos 0)) _ _ (λ e. tame-none i j) (λ e. h)))
 
   pub wider : (N′ D′ : ℕ) → N ≤ N′ → D ≤ D′ → Tame N′ D′ s
-  wider N′ D′ i j = record { begin = h .begin; end = h .end; low = h .low; high = h .high; lowN = omega (arith, h .lowN); lowD = omega (arith, h .lowD); highN = omega (arith, h .highN); highD = omega (arith, h .highD) }
+  wider N′ D′ i j = record {
+    begin = h .begin;
+    end = h .end;
+    low = h .low;
+    high = h .high;
+    lowN = omega (arith, h .lowN);
+    lowD = omega (arith, h .lowD);
+    highN = omega (arith, h .highN);
+    highD = omega (arith, h .highD);
+  }
 
 pub small-clip : (s : Span) (a b : ℤ) → Small s → Slope a b → Small (clip s a b)
 small-clip s a b h k = tame-clip _ _ s h a b (omega arith) (omega arith) k

@@ -37,7 +37,8 @@ module _ (r : Ring) (p : Pt) where
   some-later : (m n : ℕ) → m ≤ n → onSome r p m ≡ true → onSome r p n ≡ true
   unfolding onSome
   some-later m zero h e = let q : m ≡ 0 = omega arith in subst (λ (k : ℕ). onSome r p k ≡ true) q e
-  some-later m (suc n) h e = ⊎-elim (λ (l : suc n ≤ m). let q : m ≡ suc n = omega arith in subst (λ (k : ℕ). onSome r p k ≡ true) q e) (λ (l : m < suc n). rw (some-later m n (omega arith) e)) (ℕ-or (suc n) m)
+  some-later m (suc n) h e = ⊎-elim (λ (l : suc n ≤ m). let q : m ≡ suc n = omega arith in subst (λ (k : ℕ). onSome r p k ≡ true) q e)
+      (λ (l : m < suc n). rw (some-later m n (omega arith) e)) (ℕ-or (suc n) m)
 
   pub on-place : (i : ℕ) → i < r .size → isOn p (from r i) (to r i) ≡ true → on ≡ place r p
   unfolding onSome place

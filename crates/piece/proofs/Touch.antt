@@ -19,8 +19,8 @@ use Rattle.decide.proofs.Place.{least-of, most-of}
 use Rattle.decide.specs.Touch.{least, most, swing, across, sameSide, onLine, within, onEdge, touch, touches, bandSpan, startPoint, over, pointOf, motion, place, contact, meets}
 use Rattle.piece.specs.Moving.{Tame, Small, Bounds, Slope}
 use Rattle.piece.specs.Touch.{Close, Slow, Ready, Flat, Standing, Level, AlongSteps}
-use Rattle.piece.specs.Steps.{CrossSteps, SideSteps}
-use Rattle.piece.proofs.Steps.{fit, reach-abs, product, cross-most, cross-steps}
+use Rattle.footprint.specs.Steps.{CrossSteps, SideSteps}
+use Rattle.footprint.proofs.Steps.{fit, reach-abs, product, cross-most, cross-steps}
 use Rattle.piece.proofs.Moving.{tame-clip, wider, small-clip, back}
 
 -- numbers within reach, and their differences
@@ -138,7 +138,16 @@ gap-fits a b h k = fit (a -ℤ b) (omega (arith, abs-sub a b, wide32 a h, wide32
 
 -- ---- the band
 pub tame-ticks : (t : ℕ) → t ≤ 4096 → Tame 32768 510 (ticks (pos t))
-tame-ticks t h = record { begin = record { le = tt }; end = record { le = le→leb t 4096 h }; low = record { lt = tt }; high = record { lt = tt }; lowN = omega arith; lowD = omega arith; highN = omega arith; highD = omega arith }
+tame-ticks t h = record {
+  begin = record { le = tt };
+  end = record { le = le→leb t 4096 h };
+  low = record { lt = tt };
+  high = record { lt = tt };
+  lowN = omega arith;
+  lowD = omega arith;
+  highN = omega arith;
+  highD = omega arith;
+}
 
 abbrev pub climb : Run → Piece → ℤ
 climb r k = r .speed .z -ℤ k .speed .z

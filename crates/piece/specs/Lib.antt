@@ -2,8 +2,4 @@ pub mod Numbers
 pub mod Moving
 pub mod Touch
 pub mod Tells
-pub mod Decide
-pub mod Steps
-pub mod Shape
-pub mod Table
 pub mod Place

@@ -9,7 +9,7 @@ use Rattle.rules.specs.Ring.{Pt, ring}
 use Rattle.decide.specs.Span.{Span}
 use Rattle.piece.specs.declared.motion.Motion.{Motion}
 use Rattle.piece.specs.declared.motion.Edge.{Edge}
-use Rattle.piece.specs.Shape.{Holds, Corner}
+use Rattle.footprint.specs.Shape.{Holds, Corner}
 use Rattle.piece.specs.Moving.{Small}
 
 abbrev pub startOf : Motion → Pt

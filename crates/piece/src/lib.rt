@@ -1,5 +1,7 @@
 // The geometry: which runs and pieces are good, where a point lies, and when a run meets a piece.
-// Definitions: the crates `rules` and `refusal`; specs/Numbers.antt says which run and which piece plain numbers are.
+// The footprint's own checks: the crate `footprint`. Definitions: the crates `rules` and `refusal`; specs/Numbers.antt says which run and which piece plain numbers are.
+use footprint::check_footprint;
+use footprint::sized;
 use refusal::Checked;
 use refusal::Refusal;
 use spot::Spot;
@@ -9,12 +11,9 @@ ghost use Rattle.piece.specs.Numbers.{runOf, pieceOf};
 ghost use Rattle.piece.specs.Place.{pt, Lies};
 ghost use Rattle.piece.specs.Tells.{Tells};
 
-mod extent;
-mod good;
 mod motion;
 mod number;
 mod reach;
-mod ring;
 mod span;
 mod spot;
 
@@ -67,14 +66,14 @@ pub fn check_run(run: Run) -> Checked
 pub fn check_piece(band: Band, corners: &[i32]) -> Checked
     ensures { λ r. ⌜ Finds (pieceChecks (pieceOf band (now (corners .entry)))) r ⌝ }
 {
-    if !good::sized(corners) {
+    if !sized(corners) {
         return Checked::Refused(Refusal::Corners);
     }
     let k = reach::band_fault(band);
     if k < 5 {
         return Checked::Refused(Refusal::Reach(2 + 2 * k));
     }
-    good::check_shape(corners)
+    check_footprint(corners)
 }
 
 // Where a point of the grid lies against a footprint.

@@ -3,20 +3,20 @@
 use crate::Band;
 use crate::NONE;
 use crate::Run;
+use crate::number::at;
 use crate::number::cross;
-use crate::number::least;
-use crate::number::most;
-use crate::number::same_side;
 use crate::number::side;
-use crate::ring::next;
-use crate::ring::x;
-use crate::ring::y;
 use crate::span::Span;
 use crate::span::clip;
 use crate::span::first;
 use crate::span::some;
 use crate::spot::Spot;
 use crate::spot::place_at;
+use footprint::around;
+use footprint::least;
+use footprint::most;
+use footprint::same_side;
+use footprint::wide;
 use refusal::Refusal;
 ghost use mathlib.Core.Path.{_≡_};
 ghost use mathlib.Core.List.{[]};
@@ -29,7 +29,7 @@ ghost use Rattle.decide.specs.Touch.{swing, across, onLine, within, onEdge, tou
 ghost use Rattle.piece.specs.Numbers.{runOf, pieceOf};
 ghost use Rattle.piece.specs.Place.{whereOf};
 ghost use Rattle.piece.specs.Moving.{spanOf, Tame};
-ghost use Rattle.piece.specs.Steps.{CrossSteps};
+ghost use Rattle.footprint.specs.Steps.{CrossSteps};
 ghost use Rattle.piece.specs.Touch.{startOf, speedOf, fromOf, toOf, Ready, Flat, Standing, Level, AlongSteps};
 
 // What a verdict is: clear, the mark of the first contact, or the refusal.
@@ -123,14 +123,14 @@ fn touches(l: &[i32], m: Motion, s: Span) -> u32
 {
     let n = l.len() / 2;
     let mut best = NONE;
-    let mut ax = x(l, 0);
-    let mut ay = y(l, 0);
+    let mut ax = at(l, 0);
+    let mut ay = at(l, 1);
     let mut c = across(m, ax, ay);
     let mut i: usize = 0;
     while i < n {
-        let j = next(n, i);
-        let bx = x(l, j);
-        let by = y(l, j);
+        let j = around(n, i + 1);
+        let bx = at(l, 2 * j);
+        let by = at(l, 2 * j + 1);
         let d = across(m, bx, by);
         let e = Edge { ax, ay, bx, by };
         best = earlier(best, touch(m, s, e, c, d));
@@ -147,12 +147,6 @@ fn gap(a: i32, b: i32) -> i64
     ensures { λ r. ⌜ r ≡ a -ℤ b ⌝ }
 {
     a as i64 - b as i64
-}
-
-fn wide(a: i32) -> i64
-    ensures { λ r. ⌜ r ≡ a ⌝ }
-{
-    a as i64
 }
 
 // The point of a run, and its velocity against a piece's.

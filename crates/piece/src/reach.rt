@@ -1,18 +1,18 @@
 // The numbers of runs and pieces, but for the corners, by rising offset.
 use crate::Band;
 use crate::Run;
-use crate::number::reaches;
 use crate::number::speeds;
+use footprint::reaches;
 ghost use Rattle.rules.specs.Good.{runNumber, bandNumber};
 ghost use lib.Signed.{_≤ℤ_};
 ghost use Rattle.rules.specs.Reach.{Reach};
-ghost use Rattle.piece.specs.Decide.{Decides, Seeks};
+ghost use Rattle.whole.specs.Decide.{Decides, Seeks};
 ghost use Rattle.rules.specs.Place.{pointNumber};
 ghost use Rattle.piece.specs.Numbers.{runOf, pieceOf, speedNumber};
 ghost use Rattle.piece.specs.Place.{pt};
 ghost use mathlib.Core.List.{[]};
 
-// The first of a point's two numbers.
+// The first of a point's two numbers that is out of reach, or 2.
 pub(crate) fn point_fault(x: i32, y: i32) -> usize
     ensures { λ r. ⌜ Seeks (λ j. pointNumber (pt x y) j → ⊥) 2 r ⌝ }
 {
@@ -25,7 +25,7 @@ pub(crate) fn point_fault(x: i32, y: i32) -> usize
     2
 }
 
-// The first of a velocity's three numbers.
+// The first of a velocity's three numbers that is out of reach, or 3.
 fn speed_fault(x: i32, y: i32, z: i32) -> usize
     ensures { λ r. ⌜ Seeks (λ j. speedNumber x y z j → ⊥) 3 r ⌝ }
 {
@@ -41,7 +41,7 @@ fn speed_fault(x: i32, y: i32, z: i32) -> usize
     3
 }
 
-// The first number of a run that is not taken, of seven.
+// The first of a run's seven numbers that is out of reach, or 7.
 pub(crate) fn run_fault(run: Run) -> usize
     ensures { λ r. ⌜ Seeks (λ j. runNumber (runOf run) j → ⊥) 7 r ⌝ }
 {
@@ -69,7 +69,7 @@ fn tops(bottom: i32, top: i32) -> bool
     reaches(top) && bottom <= top
 }
 
-// The first of a piece's five numbers before its corners.
+// The first of a piece's five numbers before its corners that is out of reach, or 5. A top below the bottom counts as one.
 pub(crate) fn band_fault(band: Band) -> usize
     ensures { λ r. ⌜ Seeks (λ j. bandNumber (pieceOf band []) j → ⊥) 5 r ⌝ }
 {

@@ -1,14 +1,13 @@
 // Where a point lies against a footprint.
-use crate::good::check_footprint;
-use crate::number::least;
-use crate::number::less;
-use crate::number::most;
-use crate::number::ranged;
+use crate::number::at;
 use crate::number::side;
 use crate::reach::point_fault;
-use crate::ring::next;
-use crate::ring::x;
-use crate::ring::y;
+use footprint::around;
+use footprint::check_footprint;
+use footprint::least;
+use footprint::less;
+use footprint::most;
+use footprint::ranged;
 use refusal::Checked;
 use refusal::Refusal;
 ghost use mathlib.Core.Path.{_≡_};
@@ -22,8 +21,8 @@ ghost use Rattle.rules.specs.Place.{Place, placeChecks};
 ghost use Rattle.refusal.specs.Said.{Finds};
 ghost use Rattle.decide.specs.Crossing.{xor, crosses};
 ghost use Rattle.decide.specs.Touch.{isOn, place, over};
-ghost use Rattle.piece.specs.Steps.{SideSteps};
-ghost use Rattle.piece.specs.Shape.{Holds, Corner};
+ghost use Rattle.footprint.specs.Steps.{SideSteps};
+ghost use Rattle.footprint.specs.Shape.{Holds, Corner};
 ghost use Rattle.piece.specs.Place.{pt, ptOf, Near, whereOf};
 
 pub(crate) enum Spot {
@@ -87,8 +86,8 @@ fn corner_at(l: &[i32], i: usize, d: i64) -> Point
     ensures { λ r. ⌜ ptOf r ≡ over d (ring (now (l .entry))) .at i ⌝ }
 {
     Point {
-        x: scaled(d, x(l, i)),
-        y: scaled(d, y(l, i)),
+        x: scaled(d, at(l, 2 * i)),
+        y: scaled(d, at(l, 2 * i + 1)),
     }
 }
 
@@ -101,7 +100,7 @@ pub(crate) fn place_at(l: &[i32], n: usize, px: i64, py: i64, d: i64) -> Spot
     let mut a = corner_at(l, 0, d);
     let mut i = 0;
     while i < n {
-        let b = corner_at(l, next(n, i), d);
+        let b = corner_at(l, around(n, i + 1), d);
         if is_on(a.x, a.y, b.x, b.y, px, py) {
             return Spot::On;
         }

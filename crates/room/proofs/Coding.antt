@@ -14,21 +14,22 @@ use Rattle.rules.specs.Refusal.{refuse, Check, Passes, Fault, demand}
 use Rattle.rules.specs.Good.{runChecks}
 use Rattle.rules.specs.Verdict.{blocked}
 use Rattle.rules.proofs.Reach.{run-known}
-use Rattle.rules.proofs.Checks.{passes-append, fault-left, fault-right, fault-past}
-use Rattle.rules.proofs.Good.{sharp-run}
+use Rattle.rules.proofs.Checks.{passes-append, fault-left, fault-right}
 use Rattle.rules.proofs.Verdict.{mark-small, mark-answers}
 use Rattle.refusal.specs.declared.Refusal.{Refusal}
 use Rattle.refusal.specs.declared.Refusal.the-variants.{Short}
 use Rattle.refusal.specs.Said.{said}
 use Rattle.block.specs.Reading.{pieceBlockChecks}
 use Rattle.block.specs.Verdicts.{VerdictOn, verdictInChecks}
+use Rattle.block.proofs.Blocks.{nth-length}
 use Rattle.block.proofs.PieceLaws.{block-passes}
+use Rattle.block.proofs.VerdictLaws.{block-refused}
 use Rattle.block.specs.Layout.{blockAt}
-use Rattle.room.specs.Image.{count, saidIn, headChecks, piecesCheck, roomChecks}
+use Rattle.room.specs.Image.{count, saidIn, headChecks, Has, FirstRefused, piecesCheck, roomChecks}
 use Rattle.room.specs.declared.Counted.the-variants.{Refused}
 use Rattle.room.specs.Verdicts.{verdictsChecks, CodeOf, Filled, VerdictsSay}
 use Rattle.room.specs.Codes.{CodesTo, AllCoded}
-use Rattle.room.proofs.Images.{fault-zero, few-pieces}
+use Rattle.room.proofs.Images.{fault-zero, few-pieces, has-long}
 
 -- ---- the code of a piece
 module _ (r : Run) (image : List ℕ) (i : ℕ) where
@@ -41,10 +42,11 @@ module _ (r : Run) (image : List ℕ) (i : ℕ) where
     verdict = mark-answers r (v .piece) k (mark-small r (v .piece) k (run-known r (v .run) 6 (omega arith)) (v .verdict)) (v .verdict);
   }
 
-  -- the run is good, so the block is refused
-  pub code-none : Passes (runChecks r) → (x : Refusal) → Fault (verdictInChecks r (blockAt image (suc i))) (said x) → Fault (pieceBlockChecks (blockAt image (suc i))) (said x)
-  unfolding verdictInChecks
-  code-none good x f = fault-past (runChecks r) (pieceBlockChecks (blockAt image (suc i))) (sharp-run r) (said x) good f
+  -- the run is good and the block whole, so what the block says is refused
+  pub code-none : Passes (runChecks r) → Has image i → (x : Refusal) → Fault (verdictInChecks r (blockAt image (suc i))) (said x) → Fault (pieceBlockChecks (blockAt image (suc i))) (said x)
+  code-none good has x f =
+      let h = has-long image i has in
+      block-refused r (blockAt image (suc i)) (nth-length image (suc i) (omega arith)) x good f
 
 -- a piece that has a code passes
 pub code-passes : (r : Run) (image : List ℕ) (i c : ℕ) → CodeOf r image i c → Passes (pieceBlockChecks (blockAt image (suc i)))
@@ -60,15 +62,17 @@ module _ (r : Run) (image : List ℕ) where
   -- every piece passes where the pieces have codes
   pub codes-pass : (codes : List ℕ) → Passes (headChecks image) → CodesTo r image codes (count image) → Passes (roomChecks image)
   unfolding roomChecks
-  codes-pass codes p h = passes-append (headChecks image) (piecesCheck image ∷ []) p (λ i k. code-passes r image i (getD codes i 0) (h i k), tt)
+  codes-pass codes p h = passes-append (headChecks image) (piecesCheck pieceBlockChecks image ∷ []) p (λ i k. code-passes r image i (getD codes i 0) (h i k), tt)
 
   -- the first piece that is refused
-  pub codes-stop : (codes : List ℕ) (i : ℕ) (x : Refusal) → Passes (headChecks image) → i < count image → CodesTo r image codes i → Fault (pieceBlockChecks (blockAt image (suc i))) (said x) → Fault (roomChecks image) (saidIn x (i + 1))
+  pub codes-stop : (codes : List ℕ) (i : ℕ) (x : Refusal) → Has image i → CodesTo r image codes i
+      → Fault (pieceBlockChecks (blockAt image (suc i))) (said x) → Fault (roomChecks image) (saidIn x (i + 1))
   unfolding roomChecks
-  codes-stop codes i x p l h f =
-      rw (add-one i)
-      (fault-right (headChecks image) (piecesCheck image ∷ []) (saidIn x (suc i)) p
-      (inl (i, said x, record { below = l; before = λ j k. code-passes r image j (getD codes j 0) (h j k); fault = f }, refl)))
+  codes-stop codes i x has h f =
+      rw (add-one i) (fault-right (headChecks image) (piecesCheck pieceBlockChecks image ∷ []) (saidIn x (suc i)) (has .head) (inl first))
+    where
+      first : FirstRefused pieceBlockChecks image (count image) (saidIn x (suc i))
+      first = record { piece = i; below = has .below; before = λ j k. code-passes r image j (getD codes j 0) (h j k); refusal = said x; fault = f; same = refl }
 
   pub coded-few : (codes : List ℕ) (n : ℕ) → AllCoded r image codes n → n ≤ 126
   coded-few codes n a = let e = a .pieces in let h = few-pieces image (a .passes) in omega arith
@@ -76,7 +80,7 @@ module _ (r : Run) (image : List ℕ) where
 -- a fault of the head is one of the room
 pub head-fault : (image : List ℕ) (x : Refusal) (b : ℕ) → Fault (headChecks image) (saidIn x b) → Fault (roomChecks image) (saidIn x b)
 unfolding roomChecks
-head-fault image x b f = fault-left (headChecks image) (piecesCheck image ∷ []) (saidIn x b) f
+head-fault image x b f = fault-left (headChecks image) (piecesCheck pieceBlockChecks image ∷ []) (saidIn x b) f
 
 -- ---- the verdicts
 module _ (r : Run) (image : List ℕ) where

@@ -13,7 +13,7 @@ use Rattle.refusal.specs.declared.Refusal.{Refusal}
 use Rattle.refusal.specs.declared.Refusal.the-variants.{Length, Check as Seal, Kind, Reach, Corners, Same, Fold, Meet, Clockwise, Short, NotNumber, Beyond, OffGrid, Line, Index, Face}
 use Rattle.refusal.specs.Said.{said}
 use Rattle.block.specs.Layout.{byte, blockAt}
-use Rattle.block.specs.Reading.{headerChecks, HeaderSays}
+use Rattle.block.specs.Reading.{headerChecks, pieceBlockChecks, HeaderSays}
 use Rattle.block.specs.declared.HeaderRead.the-variants.{Count as Pieced, NoHeader}
 use Rattle.block.proofs.Blocks.{nth-byte, nth-part}
 use Rattle.block.proofs.Headers.{header-passes, header-one, header-is, header-count}
@@ -51,7 +51,7 @@ module _ (image : List ℕ) where
   abbrev last : List Check
   last = demand (length image ≡ 512 * suc (count image)) (refuse 1 0 0) ∷ []
 
-  first-five : byte b 5 ≡ count image
+  pub first-five : byte b 5 ≡ count image
   first-five = nth-byte image 0 5 (omega arith)
 
   pub not-whole : (Whole image → ⊥) → HeadSays image (Refused Length 0)
@@ -71,16 +71,19 @@ module _ (image : List ℕ) where
 
     pub head-good : length image ≡ 512 * (n + 1) → HeadSays image (Count n)
     unfolding headChecks
-    head-good e = let c = counts in ((w, passes-append (headerChecks b) last header (omega arith, tt)), c)
+    head-good e = let c = counts in record { passes = (w, passes-append (headerChecks b) last header (omega arith, tt)); pieces = c }
 
     pub head-bad : (length image ≡ 512 * (n + 1) → ⊥) → HeadSays image (Refused Length 0)
     unfolding headChecks
     head-bad f = let c = counts in inr (w, fault-right (headerChecks b) last (refuse 1 0 0) header (inl (λ e. f (omega arith), refl)))
 
   module _ (p : Passes (headChecks image)) where
-    pub head-few : count image ≤ 126
+    pub head-header : Passes (headerChecks b)
     unfolding headChecks
-    head-few = rw (← first-five) (header-count b (passes-left (headerChecks b) last (p .1)))
+    head-header = passes-left (headerChecks b) last (p .1)
+
+    pub head-few : count image ≤ 126
+    head-few = rw (← first-five) (header-count b head-header)
 
     pub head-long : length image ≡ 512 * suc (count image)
     unfolding headChecks
@@ -92,7 +95,7 @@ part-is image i = let e : i + 1 ≡ suc i = omega arith in nth-part image (i + 1
 
 pub few-pieces : (image : List ℕ) → Passes (roomChecks image) → Pieces (count image)
 unfolding roomChecks
-few-pieces image p = head-few image (passes-left (headChecks image) (piecesCheck image ∷ []) p)
+few-pieces image p = head-few image (passes-left (headChecks image) (piecesCheck pieceBlockChecks image ∷ []) p)
 
 pub has-few : (image : List ℕ) (i : ℕ) → Has image i → i < 126
 has-few image i h = let f = head-few image (h .head) in let g = h .below in omega arith

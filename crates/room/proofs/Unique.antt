@@ -1,6 +1,6 @@
 -- At most one step, and at most one answer and list of verdicts, meet their contracts; and the end and a refusal repeat. Assumes nothing.
 use mathlib.Core.Path.{_≡_, refl, sym, ap, subst, _∙_}
-use mathlib.Core.List.{List, [], _∷_}
+use mathlib.Core.List.{List}
 use Prim.Native.Nat.{ℕ, suc, _≤_, _<_}
 use native.Mathlib.Omega.{arith}
 use lib.ListN.{getD}
@@ -8,7 +8,7 @@ use denote.Ref.{RefT}
 use Rattle.whole.proofs.Front.{stays-one}
 use Rattle.rules.specs.Reach.{Run, Piece}
 use Rattle.rules.specs.Refusal as rules
-use Rattle.rules.specs.Refusal.{Passes, Fault}
+use Rattle.rules.specs.Refusal.{Check, Passes, Fault}
 use Rattle.rules.specs.Good.{runChecks}
 use Rattle.rules.specs.Verdict.{answer}
 use Rattle.rules.proofs.Checks.{only, Sharp, AllSharp, never-both, one-fault, sharp-demand, sharp-append}
@@ -28,7 +28,7 @@ use Rattle.room.specs.declared.Reader.{Reader}
 use Rattle.room.specs.declared.Step.{Step}
 use Rattle.block.specs.Layout.{blockAt}
 use Rattle.room.specs.Image.{count, inBlock, saidIn, headChecks, FirstRefused, piecesCheck, roomChecks}
-use Rattle.room.specs.Step.{pieceRead, StepFault, head, block, StepFinds, StepSays}
+use Rattle.room.specs.Step.{ReaderAt, pieceRead, Gives, Ends, StepFault, head, block, StepFinds, StepSays}
 use Rattle.room.specs.Verdicts.{verdictsChecks, CodeOf, Filled, VerdictsSay}
 use Rattle.room.proofs.Images.{said-zero}
 
@@ -37,30 +37,28 @@ pub sharp-head : (image : List ℕ) → AllSharp (headChecks image)
 unfolding headChecks
 sharp-head image = (sharp-demand _ _, sharp-append (headerChecks (blockAt image 0)) _ (sharp-header (blockAt image 0)) (sharp-demand _ _, tt))
 
-module _ (image : List ℕ) where
+module _ (checks : List ℕ → List Check) (sharp : (l : List ℕ) → AllSharp (checks l)) (image : List ℕ) where
   -- a piece does not pass and fail
-  clash : (i : ℕ) (r : rules.Refusal) → Passes (pieceBlockChecks (blockAt image (suc i))) → Fault (pieceBlockChecks (blockAt image (suc i))) r → ⊥
-  clash i r p f = never-both (pieceBlockChecks (blockAt image (suc i))) (sharp-piece-block (blockAt image (suc i))) r p f
+  clash : (i : ℕ) (r : rules.Refusal) → Passes (checks (blockAt image (suc i))) → Fault (checks (blockAt image (suc i))) r → ⊥
+  clash i r p f = never-both (checks (blockAt image (suc i))) (sharp (blockAt image (suc i))) r p f
 
-  first-one : (n i j : ℕ) (r s : rules.Refusal) → FirstRefused image n i r → FirstRefused image n j s → inBlock (suc i) r ≡ inBlock (suc j) s
-  first-one n i j r s f g =
-      let e = only i j (λ l. clash i r (g .before i l) (f .fault)) (λ l. clash j s (f .before j l) (g .fault)) in
-      same i j r s e
-      (one-fault (pieceBlockChecks (blockAt image (suc j))) (sharp-piece-block (blockAt image (suc j))) r s
-      (subst (λ (k : ℕ). Fault (pieceBlockChecks (blockAt image (suc k))) r) e (f .fault)) (g .fault))
+  -- the first that is refused is one, and so is its refusal
+  first-one : (n : ℕ) (s t : rules.Refusal) → FirstRefused checks image n s → FirstRefused checks image n t → s ≡ t
+  first-one n s t f g =
+      let i = f .piece in let j = g .piece in
+      let e = only i j (λ l. clash i (f .refusal) (g .before i l) (f .fault)) (λ l. clash j (g .refusal) (f .before j l) (g .fault)) in
+      let there = subst (λ (k : ℕ). Fault (checks (blockAt image (suc k))) (f .refusal)) e (f .fault) in
+      f .same ∙ alike e (one-fault (checks (blockAt image (suc j))) (sharp (blockAt image (suc j))) (f .refusal) (g .refusal) there (g .fault)) ∙ sym (g .same)
     where
-      same : (i j : ℕ) (r s : rules.Refusal) → i ≡ j → r ≡ s → inBlock (suc i) r ≡ inBlock (suc j) s
-      same i j r s e f = rw (e, f)
+      alike : {i j : ℕ} {r q : rules.Refusal} → i ≡ j → r ≡ q → inBlock (suc i) r ≡ inBlock (suc j) q
+      alike e f = rw (e, f)
 
-  sharp-pieces : Sharp (piecesCheck image)
-  sharp-pieces = record {
-    never = λ s p f. clash (f .0) (f .1) (p (f .0) (f .2 .below)) (f .2 .fault);
-    one = λ s t f g. f .3 ∙ first-one (count image) (f .0) (g .0) (f .1) (g .1) (f .2) (g .2) ∙ sym (g .3);
-  }
+  pub sharp-pieces : Sharp (piecesCheck checks image)
+  sharp-pieces = record { never = λ s p f. clash (f .piece) (f .refusal) (p (f .piece) (f .below)) (f .fault); one = first-one (count image) }
 
-  pub sharp-room : AllSharp (roomChecks image)
-  unfolding roomChecks
-  sharp-room = sharp-append (headChecks image) (piecesCheck image ∷ []) (sharp-head image) (sharp-pieces, tt)
+pub sharp-room : (image : List ℕ) → AllSharp (roomChecks image)
+unfolding roomChecks
+sharp-room image = sharp-append (headChecks image) _ (sharp-head image) (sharp-pieces pieceBlockChecks sharp-piece-block image, tt)
 
 pub sharp-verdicts : (r : Run) (image list : List ℕ) → AllSharp (verdictsChecks r image list)
 unfolding verdictsChecks
@@ -80,32 +78,41 @@ same-step s t k d n h g =
     let q = holds-one (pieceRead s) (pieceRead t) k refl h g in λ i. record { found = d i; band = q i .band; corners = q i .corners; count = q i .count; next = n i }
 
 module _ (image : List ℕ) (place : ℕ) where
+  -- the block of the place
+  abbrev here : List ℕ
+  here = blockAt image (suc place)
+
+  -- a place is not below the count and past it
+  past : (n : ℕ) → place < n → n ≤ place → ⊥
+  past n h g = omega arith
+
   fault-one : (r s : rules.Refusal) → StepFault image place r → StepFault image place s → r ≡ s
   fault-one r s (head f) (head g) = one-fault (headChecks image) (sharp-head image) r s f g
   fault-one r s (head f) (block p l x g e) = absurd (never-both (headChecks image) (sharp-head image) r p f)
   fault-one r s (block p l x f e) (head g) = absurd (never-both (headChecks image) (sharp-head image) s p g)
-  fault-one r s (block p l x f e) (block q m y g d) =
-      e ∙ ap (inBlock (suc place)) (one-fault (pieceBlockChecks (blockAt image (suc place))) (sharp-piece-block (blockAt image (suc place))) x y f g) ∙ sym d
+  fault-one r s (block p l x f e) (block q m y g d) = e ∙ ap (inBlock (suc place)) (one-fault (pieceBlockChecks here) (sharp-piece-block here) x y f g) ∙ sym d
 
-  -- no fault where the head passes and the block passes or none stands there
-  no-fault : Passes (headChecks image) → (place < count image → (r : rules.Refusal) → Fault (pieceBlockChecks (blockAt image (suc place))) r → ⊥) → (r : rules.Refusal) → StepFault image place r → ⊥
-  no-fault p h r (head f) = never-both (headChecks image) (sharp-head image) r p f
-  no-fault p h r (block q l x f e) = h l x f
+  -- no fault where a piece is given
+  gives-faultless : (s : Step) → Gives image place s → (r : rules.Refusal) → StepFault image place r → ⊥
+  gives-faultless s g r (head f) = never-both (headChecks image) (sharp-head image) r (g .head) f
+  gives-faultless s g r (block q l x f e) = never-both (pieceBlockChecks here) (sharp-piece-block here) x (block-passes here (g .good .piece) (g .good .same) (g .good .good)) f
 
-  past : (n : ℕ) → place < n → n ≤ place → ⊥
-  past n h g = omega arith
+  -- nor at the end
+  ends-faultless : (s : Step) → Ends image place s → (r : rules.Refusal) → StepFault image place r → ⊥
+  ends-faultless s g r (head f) = never-both (headChecks image) (sharp-head image) r (g .head) f
+  ends-faultless s g r (block q l x f e) = past (count image) l (g .past)
 
   finds-one : (s t : Step) (f g : Found) → s .found ≡ f → t .found ≡ g → StepFinds image place s f → StepFinds image place t g → s ≡ t
   finds-one s t Good Good d e f g =
-      let q = read-piece-one (blockAt image (suc place)) (pieceRead s) (pieceRead t) (f .good) (g .good) in
+      let q = read-piece-one here (pieceRead s) (pieceRead t) (f .good) (g .good) in
       λ i. record { found = (d ∙ sym e) i; band = q i .band; corners = q i .corners; count = q i .count; next = (f .next ∙ sym (g .next)) i }
   finds-one s t Good End d e f g = absurd (past (count image) (f .below) (g .past))
-  finds-one s t Good (Refused y b) d e f g = absurd (no-fault (f .head) (λ l r h. clash image place r (block-passes (blockAt image (suc place)) (f .good .piece) (f .good .same) (f .good .good)) h) (saidIn y b) (g .fault))
+  finds-one s t Good (Refused y b) d e f g = absurd (gives-faultless s f (saidIn y b) (g .fault))
   finds-one s t End Good d e f g = absurd (past (count image) (g .below) (f .past))
   finds-one s t End End d e f g = same-step s t _ (d ∙ sym e) (f .next ∙ sym (g .next)) (f .empty) (g .empty)
-  finds-one s t End (Refused y b) d e f g = absurd (no-fault (f .head) (λ l r h. past (count image) l (f .past)) (saidIn y b) (g .fault))
-  finds-one s t (Refused x a) Good d e f g = absurd (no-fault (g .head) (λ l r h. clash image place r (block-passes (blockAt image (suc place)) (g .good .piece) (g .good .same) (g .good .good)) h) (saidIn x a) (f .fault))
-  finds-one s t (Refused x a) End d e f g = absurd (no-fault (g .head) (λ l r h. past (count image) l (g .past)) (saidIn x a) (f .fault))
+  finds-one s t End (Refused y b) d e f g = absurd (ends-faultless s f (saidIn y b) (g .fault))
+  finds-one s t (Refused x a) Good d e f g = absurd (gives-faultless t g (saidIn x a) (f .fault))
+  finds-one s t (Refused x a) End d e f g = absurd (ends-faultless t g (saidIn x a) (f .fault))
   finds-one s t (Refused x a) (Refused y b) d e f g =
       let q = fault-one (saidIn x a) (saidIn y b) (f .fault) (g .fault) in
       same-step s t _ (d ∙ refused (refusal-one x y a b q) (block-one x y a b q) ∙ sym e) (f .next ∙ sym (g .next)) (f .empty) (g .empty)
@@ -117,17 +124,20 @@ module _ (image : List ℕ) (place : ℕ) where
   pub step-one : (s t : Step) → StepSays image place s → StepSays image place t → s ≡ t
   step-one s t f g = finds-one s t (s .found) (t .found) refl refl f g
 
-  -- the end repeats
-  pub end-again : (s t : Step) → s .found ≡ End → StepSays image place s → StepSays image (s .next) t → t ≡ s
-  end-again s t e f g = step-one t s (subst (λ (n : ℕ). StepSays image n t) (subst (StepFinds image place s) e f .next) g) f
+  -- a step that goes on at its own place repeats
+  again : (s t : Step) → s .next ≡ place → StepSays image place s → StepSays image (s .next) t → t ≡ s
+  again s t e f g = step-one t s (subst (λ (n : ℕ). StepSays image n t) e g) f
 
-  -- and so does a refusal
+  -- so the end repeats, and so does a refusal
+  pub end-again : (s t : Step) → s .found ≡ End → StepSays image place s → StepSays image (s .next) t → t ≡ s
+  end-again s t e f = again s t (subst (StepFinds image place s) e f .next) f
+
   pub refusal-again : (s t : Step) (x : Refusal) (b : ℕ) → s .found ≡ Refused x b → StepSays image place s → StepSays image (s .next) t → t ≡ s
-  refusal-again s t x b e f g = step-one t s (subst (λ (n : ℕ). StepSays image n t) (subst (StepFinds image place s) e f .next) g) f
+  refusal-again s t x b e f = again s t (subst (StepFinds image place s) e f .next) f
 
 -- a reader is its image and its place
-pub reader-one : (r s : Reader) (image : RefT (List ℕ)) (place : ℕ) → (r .image ≡ image) × (r .place ≡ place) → (s .image ≡ image) × (s .place ≡ place) → r ≡ s
-reader-one r s image place f g = λ i. record { image = (f .0 ∙ sym (g .0)) i; place = (f .1 ∙ sym (g .1)) i }
+pub reader-one : (image : RefT (List ℕ)) (place : ℕ) (r s : Reader) → ReaderAt image place r → ReaderAt image place s → r ≡ s
+reader-one image place r s f g = λ i. record { image = (f .keeps ∙ sym (g .keeps)) i; place = (f .stands ∙ sym (g .stands)) i }
 
 -- ---- verdicts
 module _ (r : Run) (image : List ℕ) where

@@ -5,9 +5,11 @@ use Prim.Native.Nat.{ℕ, suc, _*_, _<_}
 use lib.ListN.{length}
 use Rattle.rules.specs.Refusal as rules
 use Rattle.rules.specs.Refusal.{refuse, Check, Passes, Fault, demand}
+use Rattle.rules.specs.Reach.{Pieces, Piece}
+use Rattle.rules.specs.Good.{pieceChecks}
 use Rattle.refusal.specs.declared.Refusal.{Refusal}
 use Rattle.refusal.specs.Said.{said}
-use Rattle.block.specs.Layout.{byte, Blocks, blockAt}
+use Rattle.block.specs.Layout.{byte, Blocks, blockAt, headerBlock, pieceBlock}
 use Rattle.block.specs.Reading.{headerChecks, pieceBlockChecks}
 use Rattle.room.specs.declared.Counted.{Counted}
 use Rattle.room.specs.declared.Counted.the-variants.{Count, Refused}
@@ -34,9 +36,14 @@ headChecks image =
     demand (Whole image) (refuse 1 0 0)
     ∷ (headerChecks (blockAt image 0) ++ (demand (length image ≡ 512 * suc (count image)) (refuse 1 0 0) ∷ []))
 
+-- they pass, and so many pieces are said
+pub record HeadGood (image : List ℕ) (n : ℕ) : Type 0 where
+  pub passes : Passes (headChecks image)
+  pub pieces : n ≡ count image
+
 -- the piece count where they pass, otherwise the fault
 abbrev pub HeadSays : List ℕ → Counted → Type 0
-HeadSays image (Count n) = Passes (headChecks image) × (n ≡ count image)
+HeadSays image (Count n) = HeadGood image n
 HeadSays image (Refused x b) = Fault (headChecks image) (saidIn x b)
 
 -- the head is good and has a piece i
@@ -44,18 +51,41 @@ pub record Has (image : List ℕ) (i : ℕ) : Type 0 where
   pub head : Passes (headChecks image)
   pub below : i < count image
 
--- piece i is the first of n that is refused
-pub record FirstRefused (image : List ℕ) (n i : ℕ) (r : rules.Refusal) : Type 0 where
-  pub below : i < n
-  pub before : (j : ℕ) → j < i → Passes (pieceBlockChecks (blockAt image (suc j)))
-  pub fault : Fault (pieceBlockChecks (blockAt image (suc i))) r
+-- s is the refusal of the first of n pieces whose block does not pass these checks
+pub record FirstRefused (checks : List ℕ → List Check) (image : List ℕ) (n : ℕ) (s : rules.Refusal) : Type 0 where
+  pub piece : ℕ
+  pub below : piece < n
+  pub before : (j : ℕ) → j < piece → Passes (checks (blockAt image (suc j)))
+  pub refusal : rules.Refusal
+  pub fault : Fault (checks (blockAt image (suc piece))) refusal
+  pub same : s ≡ inBlock (suc piece) refusal
 
 -- piece by piece
-abbrev pub piecesCheck : List ℕ → Check
-piecesCheck image = record {
-  passes = (i : ℕ) → i < count image → Passes (pieceBlockChecks (blockAt image (suc i)));
-  fails = λ s. (i : ℕ) × (r : rules.Refusal) × FirstRefused image (count image) i r × (s ≡ inBlock (suc i) r);
+abbrev pub piecesCheck : (List ℕ → List Check) → List ℕ → Check
+piecesCheck checks image = record {
+  passes = (i : ℕ) → i < count image → Passes (checks (blockAt image (suc i)));
+  fails = FirstRefused checks image (count image);
 }
 
 unfoldable pub roomChecks : List ℕ → List Check
-roomChecks image = headChecks image ++ (piecesCheck image ∷ [])
+roomChecks image = headChecks image ++ (piecesCheck pieceBlockChecks image ∷ [])
+
+-- ---- the image of pieces
+-- every one of them is good
+abbrev pub AllGood : List Piece → Type 0
+AllGood [] = Unit {0}
+AllGood (k ∷ ks) = Passes (pieceChecks k) × AllGood ks
+
+-- the blocks that are made of them, one after the other
+abbrev pub blocksOf : (Piece → List ℕ) → List Piece → List ℕ
+blocksOf made [] = []
+blocksOf made (k ∷ ks) = made k ++ blocksOf made ks
+
+-- the header of so many pieces and then their blocks
+abbrev pub imageOf : List Piece → List ℕ
+imageOf ks = headerBlock (length ks) ++ blocksOf pieceBlock ks
+
+-- a room can have them: they are good, and at most 126
+pub record Furnishes (ks : List Piece) : Type 0 where
+  pub good : AllGood ks
+  pub few : Pieces (length ks)

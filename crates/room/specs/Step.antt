@@ -1,7 +1,9 @@
--- A step of a reader: it depends on the image and the place alone. Assumes nothing.
+-- A reader, and a step of it: what it finds depends on the image and the place alone. Assumes nothing.
 use mathlib.Core.Path.{_≡_}
-use mathlib.Core.List.{List}
+use mathlib.Core.List.{List, [], _∷_}
 use Prim.Native.Nat.{ℕ, suc, _≤_, _<_}
+use denote.Ref.{RefT}
+use Rattle.rules.specs.Reach as reach
 use Rattle.rules.specs.Refusal as rules
 use Rattle.rules.specs.Refusal.{Passes, Fault}
 use Rattle.block.specs.Reading.{pieceBlockChecks, Holds, PieceGood, nothing}
@@ -9,9 +11,15 @@ use Rattle.block.specs.declared.PieceRead.{PieceRead}
 use Rattle.refusal.specs.declared.Checked.the-variants.{Good}
 use Rattle.room.specs.declared.Found.{Found}
 use Rattle.room.specs.declared.Found.the-variants.{Piece, End, Refused}
+use Rattle.room.specs.declared.Reader.{Reader}
 use Rattle.room.specs.declared.Step.{Step}
 use Rattle.block.specs.Layout.{blockAt}
 use Rattle.room.specs.Image.{count, inBlock, saidIn, headChecks}
+
+-- a reader keeps the lent image and its place in it
+pub record ReaderAt (image : RefT (List ℕ)) (place : ℕ) (r : Reader) : Type 0 where
+  pub keeps : r .image ≡ image
+  pub stands : r .place ≡ place
 
 -- the piece of a step, as a block's reading gives it
 abbrev pub pieceRead : Step → PieceRead
@@ -49,3 +57,20 @@ StepFinds image place s (Refused x n) = Stops image place (saidIn x n) s
 
 abbrev pub StepSays : List ℕ → ℕ → Step → Type 0
 StepSays image place s = StepFinds image place s (s .found)
+
+-- ---- reading on
+-- steps from a place on, each at the place that the one before names as the next
+abbrev pub StepsFrom : List ℕ → ℕ → List Step → Type 0
+StepsFrom image place [] = Unit {0}
+StepsFrom image place (s ∷ steps) = StepSays image place s × StepsFrom image (s .next) steps
+
+-- a step shows so much, and these numbers
+pub record Shows (f : Found) (k : reach.Piece) (s : Step) : Type 0 where
+  pub found : s .found ≡ f
+  pub holds : Holds (pieceRead s) k
+
+-- the pieces in order, and then the end again and again
+abbrev pub InOrder : List reach.Piece → List Step → Type 0
+InOrder ks [] = Unit {0}
+InOrder [] (s ∷ steps) = Shows End nothing s × InOrder [] steps
+InOrder (k ∷ ks) (s ∷ steps) = Shows Piece k s × InOrder ks steps

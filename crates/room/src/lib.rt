@@ -1,13 +1,13 @@
 // Rooms: an image of blocks, read piece by piece, and the verdicts of a run on each piece.
 // specs/Image.antt says what an image is, specs/Step.antt what a step finds, specs/Verdicts.antt what the lent list holds.
+mod cursor;
 mod image;
 mod pass;
-mod walk;
 
+pub use cursor::piece_at;
 pub use pass::verdicts;
 use piece::Band;
 use refusal::Refusal;
-pub use walk::piece_at;
 
 // What reading a room finds: the piece count, or a refusal and its block.
 pub enum Counted {

@@ -8,7 +8,6 @@ use piece::Verdict;
 use piece::check_run;
 use refusal::Checked;
 use refusal::Refusal;
-ghost use mathlib.Core.Path.{_≡_};
 ghost use Prim.Native.Nat.{_≤_};
 ghost use lib.ListN.{length};
 ghost use Rattle.whole.specs.Front.{Front};
@@ -16,7 +15,7 @@ ghost use Rattle.rules.specs.Refusal.{Passes};
 ghost use Rattle.rules.specs.Good.{runChecks};
 ghost use Rattle.piece.specs.Numbers.{runOf};
 ghost use Rattle.room.specs.Codes.{CodeFound, CodesSay};
-ghost use Rattle.room.specs.Image.{count, headChecks, Has};
+ghost use Rattle.room.specs.Image.{HeadGood, Has};
 ghost use Rattle.room.specs.Verdicts.{VerdictsSay};
 
 // The verdict on one piece, coded.
@@ -46,7 +45,7 @@ fn code_of(run: Run, image: &[u8], i: usize) -> Coded
 
 // Piece by piece.
 fn codes_of(run: Run, image: &[u8], n: usize) -> Codes
-    requires { ⌜ Passes (runChecks (runOf run)) × Passes (headChecks (now image)) × (n ≡ count (now image)) ⌝ }
+    requires { ⌜ Passes (runChecks (runOf run)) × HeadGood (now image) n ⌝ }
     ensures { λ r. ⌜ CodesSay (runOf run) (now (image .entry)) r ⌝ }
 {
     let mut codes = [0u32; 126];

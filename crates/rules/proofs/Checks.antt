@@ -5,6 +5,7 @@ use mathlib.Core.List.{List, [], _∷_, _++_}
 use Prim.Native.Nat.{ℕ, zero, suc, _+_, _-_, _≤_, _<_}
 use native.Mathlib.Omega.{arith}
 use native.Mathlib.Nat.{add-suc, add-zero}
+use Rattle.whole.specs.Decide.{Seeks}
 use Rattle.whole.proofs.Order.{ℕ-or}
 use Rattle.rules.specs.Refusal.{Refusal, Check, Passes, Fault, demand, First, each, rows}
 
@@ -15,6 +16,10 @@ only i j f g = ⊎-elim (λ (h : i ≤ j). ⊎-elim (λ (k : j ≤ i). (omega ar
 
 pub first-one : (Bad : ℕ → Type 0) (n i j : ℕ) → First Bad n i → First Bad n j → i ≡ j
 first-one Bad n i j f g = only i j (λ h. g .before i h (f .bad)) (λ h. f .before j h (g .bad))
+
+-- what a search finds is the first
+pub first-found : {Bad : ℕ → Type 0} {n r : ℕ} → Seeks Bad n r → r < n → First Bad n r
+first-found s h = record { below = h; bad = s .found h; before = λ j l. s .before j l (omega arith) }
 
 -- ---- one check
 -- it does not pass and fail, and fails in one way

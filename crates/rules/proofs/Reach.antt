@@ -1,10 +1,15 @@
 -- What good runs and good pieces are known to be, number by number. Assumes nothing.
+use mathlib.Core.Path.{_≡_}
+use mathlib.Core.Bool.{true, false}
 use mathlib.Core.Logic.{⊎-elim}
 use Prim.Native.Nat.{ℕ, zero, suc, _<_}
 use native.Mathlib.Omega.{arith}
 use lib.IntN.{ℤ}
-use lib.Signed.{_≤ℤ_}
+use lib.Signed.{_≤ℤ_, leZ}
+use Rattle.whole.specs.Decide.{Decides}
 use Rattle.whole.proofs.Order.{le-or-lt, clash, ℕ-or}
+use Rattle.whole.proofs.Flag.{le-true, le-false}
+use Rattle.whole.proofs.Decide.{decide-by}
 use Rattle.rules.specs.Reach.{Between, Ticks, Run, Piece}
 use Rattle.rules.specs.Refusal.{Passes}
 use Rattle.rules.specs.Good.{RunKnown, PieceKnown}
@@ -16,6 +21,13 @@ le-stable a b f = ⊎-elim (λ h. h) (λ h. absurd (f (λ k. clash _ _ h k))) (l
 
 pub between-stable : (l h z : ℤ) → ((Between l h z → ⊥) → ⊥) → Between l h z
 between-stable l h z f = record { above = le-stable _ _ (λ g. f (λ b. g (b .above))); below = le-stable _ _ (λ g. f (λ b. g (b .below))) }
+
+-- the second bound is the answer where the first holds, and the first where it does not
+pub between-yes : (low high z : ℤ) → leZ low z ≡ true → Decides (Between low high z) (leZ z high)
+between-yes low high z e = decide-by _ (leZ z high) (λ f. record { above = le-true low z e; below = le-true z high f }) (λ f b. clash high z (le-false z high f) (b .below))
+
+pub between-no : (low high z : ℤ) → leZ low z ≡ false → Decides (Between low high z) (leZ low z)
+between-no low high z e = rw e (λ b. clash z low (le-false low z e) (b .above))
 
 ticks-stable : (n : ℕ) → ((Ticks n → ⊥) → ⊥) → Ticks n
 ticks-stable n f = ⊎-elim (λ h. h) (λ (h : 4096 < n). absurd (f (λ g. absurd (omega arith)))) (ℕ-or n 4096)

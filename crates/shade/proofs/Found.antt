@@ -14,7 +14,8 @@ use Rattle.rules.proofs.Good.{sharp-run}
 use Rattle.room.specs.Image.{count, inBlock, roomChecks}
 use Rattle.room.proofs.Images.{few-pieces}
 use Rattle.room.specs.Verdicts.{verdictsChecks, Filled}
-use Rattle.shade.specs.Put.{Puts}
+use Rattle.io.specs.Counts.{Counts}
+use Rattle.print.specs.Put.{Puts}
 use Rattle.shade.specs.Text.{page, lengthChecks, roomPart, Page}
 
 -- a wrong length is refused by itself
@@ -45,9 +46,10 @@ module _ (r : Run) (image list after : List ℕ) (n : ℕ) (f : Filled r image l
 pub printed : (r : Run) (input list after : List ℕ) (n : ℕ) → Filled r (roomPart input) list after n → Page r input (page after n)
 printed r input list after n f = record { room = room-passes r (roomPart input) list after n f; codes = after; each = f .verdicts; text = ap (page after) (f .pieces) }
 
--- ---- what is put at the begin is within the buffer
-pub put-length : {before text after : List ℕ} {n : ℕ} → Puts before 0 text after n → n ≡ length (take n after)
-put-length {before} {text} {after} {n} p = let e = ap length (p .first) in omega (arith, p .end)
+-- ---- a short text is put whole, and is counted
+module _ {before text after : List ℕ} {n : ℕ} (p : Puts before 0 text after n) where
+  pub whole : n ≤ 8192 → 8192 ≤ length before → length text ≤ length before
+  whole h g = omega (arith, p .end)
 
-pub put-within : {before text after : List ℕ} {n : ℕ} → Puts before 0 text after n → n ≤ length after
-put-within {before} {text} {after} {n} p = omega (arith, put-length p, length-take n after)
+  pub counted : length text ≤ length before → Counts n after
+  counted h = (omega (arith, p .end, p .size), omega (arith, p .end, p .size, length-take n after))

@@ -2,9 +2,9 @@
 use mathlib.Core.Path.{_≡_}
 use mathlib.Core.Bool.{cond}
 use mathlib.Core.List.{List, [], _∷_, _++_}
-use Prim.Native.Nat.{ℕ, zero, suc, _+_, _/_, _%_, _<_}
-use lib.Dec.{eqb, ltb}
-use lib.ListN.{getD, take, drop}
+use Prim.Native.Nat.{ℕ, zero, suc, _≤_, _<_}
+use lib.Dec.{eqb}
+use lib.ListN.{length, getD, take, drop}
 use Rattle.rules.specs.Reach.{Run}
 use Rattle.rules.specs.Refusal.{Refusal, refuse, Check, Fault, Passes, demand}
 use Rattle.rules.specs.Verdict.{NONE}
@@ -12,16 +12,8 @@ use Rattle.block.specs.Layout.{Blocks}
 use Rattle.block.specs.Reading.{runBlockChecks, RunGood}
 use Rattle.room.specs.Image.{count, roomChecks}
 use Rattle.room.specs.Verdicts.{CodeOf}
-use Rattle.shade.specs.Put.{Puts}
-
--- the decimal digits of n, at most k of them
-unfoldable pub digitsIn : ℕ → ℕ → List ℕ
-digitsIn zero n = []
-digitsIn (suc k) n = cond (ltb n 10) ((48 + n) ∷ []) (digitsIn k (n / 10) ++ ((48 + n % 10) ∷ []))
-
--- all of them, since n has no more than n + 1
-abbrev pub digits : ℕ → List ℕ
-digits n = digitsIn (suc n) n
+use Rattle.print.specs.Digits.{digits}
+use Rattle.print.specs.Put.{Puts}
 
 -- "pieces ", " blocked ", " clear", "refused ", "run ", " block ", " at "
 abbrev pub pieces : List ℕ
@@ -103,8 +95,9 @@ pub data Answers (input out : List ℕ) : Type 0 where
   badRoom : Whole input → (r : Run) → RunGood (runPart input) r → (x : Refusal) → Fault (roomChecks (roomPart input)) x → out ≡ roomLine x → Answers input out
   verdicts : Whole input → (r : Run) → RunGood (runPart input) r → Page r input out → Answers input out
 
--- a text that answers the input is put at the buffer's begin
+-- a text that answers the input is put at the buffer's begin, the whole of it
 pub record Prints (input before after : List ℕ) (n : ℕ) : Type 0 where
   pub text : List ℕ
   pub answers : Answers input text
+  pub room : length text ≤ length before
   pub puts : Puts before 0 text after n

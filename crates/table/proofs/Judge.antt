@@ -17,7 +17,7 @@ use Rattle.rules.specs.Ring.{Pt, Ring, ring, next, from, to, Neighbours, Share}
 use Rattle.rules.specs.Refusal.{Check, Passes}
 use Rattle.rules.specs.Verdict as rules
 use Rattle.rules.specs.Verdict.{Answer, clear, blocked, verdictChecks, answer}
-use Rattle.rules.proofs.Checks.{passes-append, fault-left, fault-right}
+use Rattle.rules.proofs.Checks.{first-found, passes-append, fault-left, fault-right}
 use Rattle.rules.specs.Good.{Sized, Same, Meet, FirstMeet, area, runNumber, bandNumber, runChecks, sizedCheck, bandCheck, shapeChecks, footprintChecks, pieceChecks}
 use Rattle.rules.specs.Place.{Where, on, inside, outside, Place, pointNumber, placeChecks}
 use Rattle.rules.proofs.Reach.{between-stable, run-known}
@@ -30,16 +30,16 @@ use Rattle.decide.proofs.Verdict.{verdict-right}
 use Rattle.decide.proofs.Place.{range-yes, yes-range, place-right}
 use Rattle.piece.specs.declared.Placed.{Placed}
 use Rattle.piece.specs.declared.Placed.the-variants as placed
-use Rattle.piece.specs.Decide.{Decides, Seeks}
-use Rattle.piece.specs.Shape.{Stray, back, Bend, Drawing, equal, bends}
+use Rattle.whole.specs.Decide.{Decides, Seeks}
+use Rattle.footprint.specs.Shape.{Stray, back, Bend, Drawing, equal, bends, edgesShare}
 use Rattle.piece.specs.Place.{Lies}
 use Rattle.piece.specs.Tells.{Tells}
 use Rattle.piece.specs.declared.motion.Verdict.{Verdict}
 use Rattle.piece.specs.declared.motion.Verdict.the-variants as verdict
-use Rattle.piece.proofs.Decide.{yes, no, truth, none-found, first-found, Below, none-yet, one-more, stop, seeks-end}
-use Rattle.piece.proofs.Shape.{decides, shares-decides, equal-decides, bends-decides}
-use Rattle.piece.specs.Shape.{meets}
-use Rattle.piece.proofs.Finds.{found-stray, found-same, found-fold, found-meet, found-clockwise, found-good, footprint-finds, piece-finds, place-finds}
+use Rattle.whole.proofs.Decide.{yes, no, truth, decides, none-found, Below, none-yet, one-more, stop, seeks-end}
+use Rattle.footprint.proofs.Shape.{shares-decides, equal-decides, bends-decides}
+use Rattle.footprint.proofs.Finds.{found-stray, found-same, found-fold, found-meet, found-clockwise, found-good, footprint-finds}
+use Rattle.piece.proofs.Finds.{piece-finds, place-finds}
 
 -- ---- the first of several
 unfoldable pub seekFrom : (ℕ → Bool) → ℕ → ℕ → ℕ
@@ -85,7 +85,7 @@ abbrev pub neighbours : ℕ → ℕ → ℕ → Bool
 neighbours n i j = eqb (next n i) j || eqb (next n j) i
 
 abbrev pub meetFlag : Ring → ℕ → ℕ → Bool
-meetFlag r i j = (ltb i j && not (neighbours (r .size) i j)) && meets r i j
+meetFlag r i j = (ltb i j && not (neighbours (r .size) i j)) && edgesShare r i j
 
 neighbours-decides : (n i j : ℕ) → Decides (Neighbours n i j) (neighbours n i j)
 neighbours-decides n i j =
@@ -95,13 +95,17 @@ neighbours-decides n i j =
 meet-decides : (r : Ring) (i j : ℕ) → j < r .size → Decides (Meet r i j) (meetFlag r i j)
 meet-decides r i j h =
     decides (Meet r i j) (meetFlag r i j)
-    (λ e. let a = and-yes (ltb i j && not (neighbours (r .size) i j)) (meets r i j) e in let b = and-yes (ltb i j) (not (neighbours (r .size) i j)) (a .0) in record {
+    (λ e. let a = and-yes (ltb i j && not (neighbours (r .size) i j)) (edgesShare r i j) e in let b = and-yes (ltb i j) (not (neighbours (r .size) i j)) (a .0) in record {
       order = ltb-true i j (b .0);
       below = h;
       parted = yes (Neighbours (r .size) i j → ⊥) (not (neighbours (r .size) i j)) (other (Neighbours (r .size) i j) (neighbours (r .size) i j) (neighbours-decides (r .size) i j)) (b .1);
-      share = yes (Share (from r i) (to r i) (from r j) (to r j)) (meets r i j) (shares-decides (from r i) (to r i) (from r j) (to r j)) (a .1);
+      share = yes (Share (from r i) (to r i) (from r j) (to r j)) (edgesShare r i j) (shares-decides (from r i) (to r i) (from r j) (to r j)) (a .1);
     })
-    (λ m. and-both _ _ (and-both _ _ (lt-ltb i j (m .order)) (truth (Neighbours (r .size) i j → ⊥) (not (neighbours (r .size) i j)) (other (Neighbours (r .size) i j) (neighbours (r .size) i j) (neighbours-decides (r .size) i j)) (m .parted))) (truth (Share (from r i) (to r i) (from r j) (to r j)) (meets r i j) (shares-decides (from r i) (to r i) (from r j) (to r j)) (m .share)))
+    (λ m. and-both _ _
+    (and-both _ _ (lt-ltb i j (m .order))
+    (truth (Neighbours (r .size) i j → ⊥) (not (neighbours (r .size) i j))
+    (other (Neighbours (r .size) i j) (neighbours (r .size) i j) (neighbours-decides (r .size) i j)) (m .parted)))
+    (truth (Share (from r i) (to r i) (from r j) (to r j)) (edgesShare r i j) (shares-decides (from r i) (to r i) (from r j) (to r j)) (m .share)))
 
 -- ---- the searches of a footprint
 abbrev pub strayOf : List ℤ → ℕ
@@ -176,7 +180,9 @@ shape-finds l =
     (λ f. pick-finds _ _ _ _ _ (λ h. found-meet l _ _ _ d e f _ _ (first-pair (ring l) h))
     (λ m. last d e f (no-pair (ring l) m) (ltZ (pos 0) (area (ring l) (ring l .size))) refl))))
   where
-    last : Drawing l (sameOf (ring l)) (foldOf (ring l)) (area (ring l) (ring l .size)) → ring l .size ≤ sameOf (ring l) → ring l .size ≤ foldOf (ring l) → ((i j : ℕ) → Meet (ring l) i j → ⊥) → (t : Bool) → ltZ (pos 0) (area (ring l) (ring l .size)) ≡ t → Finds (shapeChecks l) (cond t Good (Refused refusal.Clockwise))
+    last : Drawing l (sameOf (ring l)) (foldOf (ring l)) (area (ring l) (ring l .size)) → ring l .size ≤ sameOf (ring l) → ring l .size ≤ foldOf (ring l)
+        → ((i j : ℕ) → Meet (ring l) i j → ⊥) → (t : Bool) → ltZ (pos 0) (area (ring l) (ring l .size)) ≡ t
+        → Finds (shapeChecks l) (cond t Good (Refused refusal.Clockwise))
     last d e f m true q = found-good l _ _ _ d e f m (lt-true _ _ q)
     last d e f m false q = found-clockwise l _ _ _ d e f m (lt-false _ _ q)
 
@@ -186,7 +192,9 @@ sizedFlag l = eqb (length l % 2) 0 && (leb 3 (length l / 2) && leb (length l / 2
 sized-decides : (l : List ℤ) → Decides (Sized l) (sizedFlag l)
 sized-decides l =
     decides (Sized l) (sizedFlag l)
-    (λ e. let a = and-yes (eqb (length l % 2) 0) (leb 3 (length l / 2) && leb (length l / 2) 64) e in let b = and-yes (leb 3 (length l / 2)) (leb (length l / 2) 64) (a .1) in record { even = eqb-true _ _ (a .0); corners = record { least = leb-true _ _ (b .0); most = leb-true _ _ (b .1) } })
+    (λ e. let a = and-yes (eqb (length l % 2) 0) (leb 3 (length l / 2) && leb (length l / 2) 64) e in
+    let b = and-yes (leb 3 (length l / 2)) (leb (length l / 2) 64) (a .1) in
+    record { even = eqb-true _ _ (a .0); corners = record { least = leb-true _ _ (b .0); most = leb-true _ _ (b .1) } })
     (λ s. and-both _ _ (eq-eqb _ _ (s .even)) (and-both _ _ (le-leb _ _ (s .corners .least)) (le-leb _ _ (s .corners .most))))
 
 unfoldable pub footprintOf : List ℤ → Checked
@@ -210,7 +218,10 @@ bandFlag k (suc (suc (suc (suc n)))) = speeds (k .speed .z)
 
 band-decides : (k : Piece) (j : ℕ) → Decides (bandNumber k j) (bandFlag k j)
 band-decides k zero = reach-decides (k .bottom)
-band-decides k (suc zero) = decides _ (reaches (k .top) && leZ (k .bottom) (k .top)) (λ e. let a = and-yes (reaches (k .top)) (leZ (k .bottom) (k .top)) e in (yes (Reach (k .top)) (reaches (k .top)) (reach-decides (k .top)) (a .0), le-true _ _ (a .1))) (λ h. and-both _ _ (truth (Reach (k .top)) (reaches (k .top)) (reach-decides (k .top)) (h .0)) (true-le _ _ (h .1)))
+band-decides k (suc zero) = decides _ (reaches (k .top) && leZ (k .bottom) (k .top))
+    (λ e. let a = and-yes (reaches (k .top)) (leZ (k .bottom) (k .top)) e in
+    (yes (Reach (k .top)) (reaches (k .top)) (reach-decides (k .top)) (a .0), le-true _ _ (a .1)))
+    (λ h. and-both _ _ (truth (Reach (k .top)) (reaches (k .top)) (reach-decides (k .top)) (h .0)) (true-le _ _ (h .1)))
 band-decides k (suc (suc zero)) = speed-decides (k .speed .x)
 band-decides k (suc (suc (suc zero))) = speed-decides (k .speed .y)
 band-decides k (suc (suc (suc (suc n)))) = speed-decides (k .speed .z)
@@ -229,7 +240,8 @@ judge-right k = go (sizedFlag (k .corners)) (sized-decides (k .corners))
     band = seeks _ _ 5 (λ j h. other (bandNumber k j) (bandFlag k j) (band-decides k j))
 
     go : (t : Bool) → Decides (Sized (k .corners)) t → Finds (pieceChecks k) (cond t (pick (bandOf k) 5 (Refused (refusal.Reach (2 + 2 * bandOf k))) (shapeOf (k .corners))) (Refused refusal.Corners))
-    go true h = pick-finds (pieceChecks k) (bandOf k) 5 _ _ (λ a. inr (h, inl (_, first-found band a, refl))) (λ a. piece-finds k (shapeOf (k .corners)) h (none-found band a) (shape-finds (k .corners)))
+    go true h = pick-finds (pieceChecks k) (bandOf k) 5 _ _ (λ a. inr (h, inl (_, first-found band a, refl)))
+        (λ a. piece-finds k (shapeOf (k .corners)) h (none-found band a) (shape-finds (k .corners)))
     go false h = inl (h, refl)
 
 -- ---- a place

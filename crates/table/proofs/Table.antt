@@ -1,5 +1,5 @@
--- The worked examples that are in the proved set: one list of rows, one claim, computed. Assumes nothing.
-use mathlib.Core.List.{List, [], _∷_}
+-- The worked examples that are in the proved set, and further ones: two lists, one claim, computed. Assumes nothing.
+use mathlib.Core.List.{List, [], _∷_, _++_}
 use Prim.Native.Nat.{ℕ}
 use lib.IntN.{ℤ, pos, negsuc}
 use Rattle.rules.specs.Reach.{Run, Piece, run, piece as pieceSaid}
@@ -18,7 +18,7 @@ use Rattle.piece.specs.declared.Placed.{Placed}
 use Rattle.piece.specs.declared.Placed.the-variants.{Inside, Outside}
 use Rattle.piece.specs.declared.motion.Verdict.{Verdict}
 use Rattle.piece.specs.declared.motion.Verdict.the-variants.{Clear, Mark}
-use Rattle.piece.specs.Shape.{back}
+use Rattle.footprint.specs.Shape.{back}
 use Rattle.piece.specs.Place.{pt, Lies}
 use Rattle.piece.specs.Tells.{Tells}
 use Rattle.table.proofs.Judge.{seekFrom, shapeOf, footprintOf, judge, judge-right, placeOf, place-lies, runOf, verdictOf, verdict-tells}
@@ -59,28 +59,53 @@ folded = pos 0 ∷ pos 0 ∷ pos 64 ∷ pos 0 ∷ pos 32 ∷ pos 0 ∷ pos 32 �
 abbrev pub clockwise : List ℤ
 clockwise = pos 0 ∷ pos 0 ∷ pos 0 ∷ pos 64 ∷ pos 64 ∷ pos 64 ∷ pos 64 ∷ pos 0 ∷ []
 
-abbrev pub rows : List Row
-rows =
+-- the rows that the rules mark P, in their order, each under its own text
+abbrev pub marked : List Row
+marked =
+    -- (-64,32,16); (16,0,0); 4 | Q | 1024
     told (run (negsuc 63) (pos 32) (pos 16) (pos 16) (pos 0) (pos 0) 4) q (Mark 1024)
+    -- same; 3 | Q | clear
     ∷ told (run (negsuc 63) (pos 32) (pos 16) (pos 16) (pos 0) (pos 0) 3) q Clear
+    -- (32,32,16); (0,0,0); 0 | Q | 0
     ∷ told (run (pos 32) (pos 32) (pos 16) (pos 0) (pos 0) (pos 0) 0) q (Mark 0)
+    -- (-32,32,16); (16,16,0); 8 | Q | 512, a corner grazed
     ∷ told (run (negsuc 31) (pos 32) (pos 16) (pos 16) (pos 16) (pos 0) 8) q (Mark 512)
+    -- (-64,32,16); (3,0,0); 22 | Q | 5461
     ∷ told (run (negsuc 63) (pos 32) (pos 16) (pos 3) (pos 0) (pos 0) 22) q (Mark 5461)
+    -- (-64,32,40); (16,0,-1); 16 | Q | 2048
     ∷ told (run (negsuc 63) (pos 32) (pos 40) (pos 16) (pos 0) (negsuc 0) 16) q (Mark 2048)
+    -- (-64,32,40); (17,0,-1); 16 | Q | clear
     ∷ told (run (negsuc 63) (pos 32) (pos 40) (pos 17) (pos 0) (negsuc 0) 16) q Clear
+    -- (-100,32,16); (255,0,0); 1 | Q | 100
     ∷ told (run (negsuc 99) (pos 32) (pos 16) (pos 255) (pos 0) (pos 0) 1) q (Mark 100)
+    -- (48,200,16); (0,-8,0); 21 | U | 5376
     ∷ told (run (pos 48) (pos 200) (pos 16) (pos 0) (negsuc 7) (pos 0) 21) u (Mark 5376)
-    ∷ told (run (negsuc 63) (pos 32) (pos 16) (pos 7) (pos 0) (pos 0) 10) q (Mark 2340)
+    -- places in U: (48,64) outside
     ∷ asked (pt (pos 48) (pos 64)) u Outside
+    -- (48,16) inside
     ∷ asked (pt (pos 48) (pos 16)) u Inside
+    -- (32,-16) outside with two edges counted
     ∷ asked (pt (pos 32) (negsuc 15)) u Outside
     ∷ counted (pt (pos 32) (negsuc 15)) u 2
+    -- refused: (0,0) (64,64) (64,0) (0,64): 8 at 0, 2
+    ∷ checked crossed (Refused (Meet 0 2))
+    -- (0,0) (64,0) (32,0) (32,64): 7 at 1
+    ∷ checked folded (Refused (Fold 1))
+    ∷ []
+
+-- further rows: two that the rules have without the mark, and that the pieces of the rows above are good
+abbrev pub further : List Row
+further =
+    -- a trap: the first row with (7,0,0) and T 10 must give 2340
+    told (run (negsuc 63) (pos 32) (pos 16) (pos 7) (pos 0) (pos 0) 10) q (Mark 2340)
+    -- (0,0) (0,64) (64,64) (64,0): 9
+    ∷ checked clockwise (Refused Clockwise)
     ∷ checked q Good
     ∷ checked u Good
-    ∷ checked crossed (Refused (Meet 0 2))
-    ∷ checked folded (Refused (Fold 1))
-    ∷ checked clockwise (Refused Clockwise)
     ∷ []
+
+abbrev pub rows : List Row
+rows = marked ++ further
 
 -- the answer that is computed for a row, put in the place of the row's own
 abbrev computed : Row → Row

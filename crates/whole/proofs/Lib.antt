@@ -5,3 +5,4 @@ pub mod Polynomial
 pub mod Range
 pub mod Fraction
 pub mod Front
+pub mod Decide

@@ -1,2 +1,3 @@
 pub mod Fraction
 pub mod Front
+pub mod Decide

@@ -4,6 +4,7 @@ use mathlib.Core.Logic.{inl, inr}
 use native.Mathlib.Omega.{arith}
 use borrow.Author.Needs.{needs}
 use denote.Ref.{now}
+use Rattle.rules.specs.Reach.{Run, Piece}
 use Rattle.rules.specs.Good.{runChecks}
 use Rattle.piece.specs.Numbers.{runOf, pieceOf}
 use Rattle.refusal.proofs.Finds.{found-good, found-bad}
@@ -14,7 +15,9 @@ use Rattle.book.proofs.ask.Statement.{statement}
 use Rattle.book.proofs.ask.Tie as tie
 
 whole : (c : tie.Else3) → Slots (now (c .before .before .before .before .args .book))
-whole c = record { whole = c .before .before .if1 .left; above = c .before .if2 .left; below = c .if3 .left }
+whole c =
+    let m = c .before .before .if1 .left in let l = c .before .if2 .left in let h = c .if3 .left in
+    record { whole = m; above = omega arith; below = omega arith }
 
 returns : tie.Need-returns
 unfolding askChecks
@@ -28,34 +31,23 @@ returns-3 : tie.Need-returns-3
 unfolding askChecks
 returns-3 c = (inl (λ s. let l = s .below in omega arith, refl), refl)
 
-check-run-requires : tie.Need-check-run-requires
-check-run-requires c κs = search needs
+-- the run that is checked, and the piece that is not yet
+abbrev run : tie.After-check-run → Run
+run c = runOf (c .before .before .before .before .before .args .run)
 
-enum-known-x : tie.Need-enum-known-x
-enum-known-x c = search needs
+abbrev piece : tie.After-check-run → Piece
+piece c = let a = c .before .before .before .before .before .args in pieceOf (a .band) (now (a .corners))
 
 returns-4 : tie.Need-returns-4
 unfolding askChecks
 returns-4 c =
-    let a = c .before .before .before .before .before .before .before .before .args in let r = runOf (a .run) in
-    (inr (whole (c .before .before .before .before), run-faulty r (pieceOf (a .band) (now (a .corners))) _ (found-bad (runChecks r) _ _ (c .before .before .before .check-run .ensures) (c .before .x .given .1))), refl)
-
-enum-told : tie.Need-enum-told
-enum-told c = search needs
-
-slice-aggregate-answer : tie.Need-slice-aggregate-answer
-slice-aggregate-answer c = search needs
+    let d = c .before .before .before in let fault = found-bad (runChecks (run d)) _ _ (d .check-run .ensures) (c .before .x .given .1) in
+    (inr (whole (d .before), run-faulty (run d) (piece d) _ fault), refl)
 
 answer-requires : tie.Need-answer-requires
 answer-requires c κs =
-    let a = c .before .before .before .before .before .before .before .before .before .args in
-    (whole (c .before .before .before .before .before), (found-good (runChecks (runOf (a .run))) _ (c .before .before .before .before .check-run .ensures) (c .before .before .enum-told .given .1), refl))
-
-same-length : tie.Need-same-length
-same-length c = search needs
-
-returns-5 : tie.Need-returns-5
-returns-5 c = search needs
+    let d = c .before .before .before .before in
+    (whole (d .before), record { good = found-good (runChecks (run d)) _ (d .check-run .ensures) (c .before .before .enum-told .given .1); blank = refl })
 
 pub ask-spec : {M : Type 1} → statement M
 ask-spec =
@@ -64,11 +56,11 @@ ask-spec =
     returns
     returns-2
     returns-3
-    check-run-requires
-    enum-known-x
+    (λ c κs. search needs)
+    (λ c. search needs)
     returns-4
-    enum-told
-    slice-aggregate-answer
+    (λ c. search needs)
+    (λ c. search needs)
     answer-requires
-    same-length
-    returns-5)
+    (λ c. search needs)
+    (λ c. search needs))

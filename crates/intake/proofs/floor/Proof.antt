@@ -1,11 +1,13 @@
 -- `intake::floor` meets its contract: the number next to it is less than one away, and the test says on which side. Assumes nothing.
-use mathlib.Core.Path.{_≡_}
+use mathlib.Core.Path.{_≡_, sym, subst}
+use lib.Dec.{lit≤}
 use lib.Ieee.{ofBits}
 use mir.Syntax.{w32}
 use mir.Val.{toZ, ofZ}
 use mir.Facts.{toZ-ofZ}
-use lib.IntN.{pos, _-ℤ_}
-use Rattle.intake.proofs.Whole.{cast, next, asks, near, next-small, cast-read, small-fits, in-float, less-fits, floor-next, floor-less}
+use lib.IntN.{pos, negsuc, _-ℤ_}
+use Rattle.intake.specs.Number.{AtOrBelow}
+use Rattle.intake.proofs.Whole.{cast, next, asks, near, next-small, cast-read, small-fits, in-float, sum-fits, floor-next, floor-less}
 use Rattle.intake.proofs.floor.Statement.{statement}
 use Rattle.intake.proofs.floor.Tie as tie
 
@@ -27,16 +29,18 @@ int-to-float-back c = let s = c .before in rw (seen s) (in-float (next (s .befor
 
 sub-result : tie.Need-sub-result
 unfolding ofBits
-sub-result c = let s = c .before .before in rw (seen s) (less-fits (next (s .before .args .scaled)) (next-small (s .before .args .scaled) (s .before .pre)))
+sub-result c = let s = c .before .before in rw (seen s) (sum-fits (next (s .before .args .scaled)) _ (next-small (s .before .args .scaled) (s .before .pre)) (lit≤ tt))
+
+-- the one before it, as the machine has it
+seen-less : (s : tie.After-row-known) → let t = next (s .before .args .scaled) -ℤ pos 1 in toZ w32 (ofZ w32 t) ≡ t
+seen-less s = let g = s .before .args .scaled in toZ-ofZ (sum-fits (next g) (negsuc 0) (next-small g (s .before .pre)) (lit≤ tt))
 
 returns : tie.Need-returns
 unfolding ofBits
 returns c =
     let s = c .before .before in
     let g = s .before .args .scaled in
-    λ v i.
-    rw (seen s, toZ-ofZ (less-fits (next g) (next-small g (s .before .pre))))
-    (floor-less g v (next g) i (near g (s .before .pre) v i) (rw (seen s) at (c .if1 .taken)))
+    λ v i. rw (seen s) (subst (AtOrBelow v) (sym (seen-less s)) (floor-less g v (next g) i (near g (s .before .pre) v i) (rw (seen s) at (c .if1 .taken))))
 
 returns-2 : tie.Need-returns-2
 unfolding ofBits

@@ -1,26 +1,27 @@
--- `intake::gather` meets its contract: before corner i every corner is taken, and its numbers stand in their places. Assumes nothing.
+-- `intake::gather` meets its contract: before corner i the contract holds of the first i corners, all of them taken. Assumes nothing.
 use mathlib.Core.Path.{_≡_, refl, subst}
 use Prim.Native.Nat.{ℕ, _-_, _≤_}
 use native.Mathlib.Omega.{arith}
 use borrow.Author.Needs.{needs}
-use lib.ListN.{length, length-set}
+use lib.ListN.{length-set}
 use mir.Syntax.{w32}
 use Rattle.whole.proofs.Range.{field}
 use Rattle.rules.proofs.Checks.{rows-fault}
 use Rattle.refusal.specs.Said.{said}
-use Rattle.intake.specs.Footprint.{Holds, Paired, cornerAt}
-use Rattle.intake.proofs.Footprint.{hold-more, holds-pass}
+use Rattle.refusal.specs.declared.Checked.the-variants.{Good}
+use Rattle.intake.specs.Footprint.{Paired, Gathered, cornerAt}
+use Rattle.intake.proofs.Footprint.{taken, hold-more, holds-pass}
 use Rattle.intake.proofs.gather.Statement.{statement}
 use Rattle.intake.proofs.gather.Tie as tie
 
 abbrev Inv-loop : tie.InvT-loop
-Inv-loop count corners numbers₀ i₀ numbers i = Holds corners i numbers × (length numbers ≡ 128) × (i ≤ count)
+Inv-loop count corners numbers₀ i₀ numbers i = Gathered corners i Good numbers × (i ≤ count)
 
 abbrev μ-loop : tie.MeasureT-loop
 μ-loop count corners numbers₀ i₀ numbers i = count - i
 
 loop-holds : tie.Need-loop-holds Inv-loop μ-loop
-loop-holds c = (record { x = λ i h. absurd (omega arith); y = λ i h. absurd (omega arith) }, refl, omega arith)
+loop-holds c = ((record { x = λ i h. absurd (omega arith); y = λ i h. absurd (omega arith) }, refl), omega arith)
 
 mul-corner : tie.Need-mul-corner Inv-loop μ-loop
 mul-corner c = omega arith
@@ -34,9 +35,6 @@ pair-requires c κs = tt
 -- what was found of corner i
 found : (c : tie.After-pair Inv-loop μ-loop) → let s = c .before .before .before in Paired (cornerAt (s .before .args .t1) (s .loop .i)) (s .loop .i) (c .pair .result)
 found c = c .pair .ensures
-
-enum-known-x : tie.Need-enum-known-x Inv-loop μ-loop
-enum-known-x c = search needs
 
 mul-numbers : tie.Need-mul-numbers Inv-loop μ-loop
 mul-numbers c = omega arith
@@ -59,16 +57,13 @@ mul-numbers-4 c = omega arith
 array-set-from-numbers-2 : tie.Need-array-set-from-numbers-2 Inv-loop μ-loop
 array-set-from-numbers-2 c = omega arith
 
-enum-known-r : tie.Need-enum-known-r Inv-loop μ-loop
-enum-known-r c = search needs
-
 returns : tie.Need-returns Inv-loop μ-loop
 returns c =
     let f = c .before .before .before in
     let s = f .before .before .before in
     let cs = s .before .args .t1 in
     let r = c .before .r .given in
-    rows-fault _ (said (r .0 .0)) (s .loop .i) (s .before .args .count) (omega arith) (holds-pass cs (s .loop .i) (s .loop .numbers) (s .loop .inv .0))
+    rows-fault _ (said (r .0 .0)) (s .loop .i) (s .before .args .count) (omega arith) (holds-pass cs (s .loop .i) (s .loop .numbers) (s .loop .inv .0 .0))
     (subst (Paired (cornerAt cs (s .loop .i)) (s .loop .i)) (r .1) (found f))
 
 add-i : tie.Need-add-i Inv-loop μ-loop
@@ -81,21 +76,19 @@ loop-again : tie.Need-loop-again Inv-loop μ-loop
 loop-again c =
     let f = c .before .before .before in
     let s = f .before .before .before in
-    let cs = s .before .args .t1 in
+    let i = s .loop .i in
+    let corner = cornerAt (s .before .args .t1) i in
     let g = c .before .x .given in
-    let e = field w32 (g .0 .0) (omega arith) in
-    let h = field w32 (g .0 .1 .0) (omega arith) in
-    let p = subst (Paired (cornerAt cs (s .loop .i)) (s .loop .i)) (g .1) (found f) in (
-      rw (e, h) (hold-more cs (s .loop .i) (s .loop .numbers) (g .0 .0) (g .0 .1 .0) (omega arith) (s .loop .inv .0) (p .0) (p .1)),
-      simp length-set (s .loop .inv .1),
-      omega arith,
-    )
+    let p = subst (Paired corner i) (g .1) (found f) in
+    let x = taken (corner .x) (field w32 (g .0 .0) (omega arith)) (p .0) in
+    let y = taken (corner .y) (field w32 (g .0 .1 .0) (omega arith)) (p .1) in
+    ((hold-more (s .before .args .t1) i (s .loop .numbers) _ _ (omega arith) (s .loop .inv .0 .0) x y, simp length-set (s .loop .inv .0 .1)), omega arith)
 
 returns-2 : tie.Need-returns-2 Inv-loop μ-loop
 returns-2 c =
     let s = c .before in
     let e : s .loop .i ≡ s .before .args .count = omega arith in
-    (subst (λ (k : ℕ). Holds (s .before .args .t1) k (s .loop .numbers)) e (s .loop .inv .0), s .loop .inv .1)
+    subst (λ (k : ℕ). Gathered (s .before .args .t1) k Good (s .loop .numbers)) e (s .loop .inv .0)
 
 pub gather-spec : {M : Type 1} → statement M
 gather-spec =
@@ -107,7 +100,7 @@ gather-spec =
     mul-corner
     array-copy-out-corner
     pair-requires
-    enum-known-x
+    (λ c. search needs)
     mul-numbers
     mul-numbers-2
     array-set-from-numbers
@@ -115,7 +108,7 @@ gather-spec =
     add-numbers
     mul-numbers-4
     array-set-from-numbers-2
-    enum-known-r
+    (λ c. search needs)
     returns
     add-i
     loop-less

@@ -1,5 +1,5 @@
--- `intake::intake` meets its contract. Assumes nothing.
-use mathlib.Core.Path.{refl, sym, subst}
+-- `intake::intake` meets its contract: count and list are looked at, then every corner, and only then is the list written. Assumes nothing.
+use mathlib.Core.Path.{_≡_, refl, sym, subst}
 use Prim.Native.Nat.{_*_, _≤_}
 use native.Mathlib.Omega.{arith}
 use lib.ListN.{length, take}
@@ -23,9 +23,6 @@ returns c = record { finds = beyond-count _ _ _ (λ h. omega arith); list = refl
 returns-2 : tie.Need-returns-2
 returns-2 c = record { finds = beyond-count _ _ _ (λ h. omega arith); list = refl }
 
-mul-if3 : tie.Need-mul-if3
-mul-if3 c = search needs
-
 returns-3 : tie.Need-returns-3
 returns-3 c = record { finds = too-short _ _ _ (record { least = omega arith; most = omega arith }) (λ h. omega arith); list = refl }
 
@@ -33,53 +30,42 @@ returns-3 c = record { finds = too-short _ _ _ (record { least = omega arith; mo
 counted : (c : tie.Else3) → Corners (c .before .before .before .args .count)
 counted c = record { least = omega arith; most = omega arith }
 
-gather-requires : tie.Need-gather-requires
-gather-requires c κs = search needs
-
-enum-told : tie.Need-enum-told
-enum-told c = search needs
-
-enum-told-2 : tie.Need-enum-told-2
-enum-told-2 c = search needs
+-- what was gathered, with what was found of it told
+told : (g : tie.After-gather) (q : Checked) → g .gather .result .checked ≡ q → let a = g .before .before .before .before .args in Gathered (a .corners) (a .count) q (g .gather .result .numbers)
+told g q e = let a = g .before .before .before .before .args in subst (λ (q : Checked). Gathered (a .corners) (a .count) q (g .gather .result .numbers)) e (g .gather .ensures)
 
 returns-4 : tie.Need-returns-4
 returns-4 c =
     let g = c .before .before in
-    let s = g .before .before .before .before in
-    let a = s .args in
+    let a = g .before .before .before .before .args in
+    let before = a .list .now in
     let r = c .enum-told2 .given in
-    subst (λ (q : Checked). Intake (a .corners) (a .count) (a .list .now) q (a .list .now)) (sym (r .1))
-    record {
-      finds = fault-in (a .corners) (a .count) (length (a .list .now)) (counted (g .before)) (omega arith) (r .0 .0) (subst (λ (q : Checked). Gathered (a .corners) (a .count) q (g .gather .result .numbers)) (r .1) (g .gather .ensures));
-      list = refl;
-    }
-
-mul-numbers : tie.Need-mul-numbers
-mul-numbers c = search needs
+    subst (λ (q : Checked). Intake (a .corners) (a .count) before q before) (sym (r .1))
+    record { finds = fault-in (a .corners) (a .count) (length before) (counted (g .before)) (omega arith) (r .0 .0) (told g _ (r .1)); list = refl }
 
 -- all corners are good
 gathered : (c : tie.After-enum-told) → let g = c .before .before in let a = g .before .before .before .before .args in Gathered (a .corners) (a .count) Good (g .gather .result .numbers)
-gathered c = let g = c .before .before in let a = g .before .before .before .before .args in subst (λ (q : Checked). Gathered (a .corners) (a .count) q (g .gather .result .numbers)) (c .enum-told .given .1) (g .gather .ensures)
+gathered c = told (c .before .before) Good (c .enum-told .given .1)
 
 array-share-prefix-numbers : tie.Need-array-share-prefix-numbers
 array-share-prefix-numbers c = omega (arith, gathered (c .before) .1)
 
 slice-aggregate-put : tie.Need-slice-aggregate-put
-slice-aggregate-put c = sym (length-take-le _ _ (array-share-prefix-numbers (c .before)))
-
-put-requires : tie.Need-put-requires
-put-requires c κs = search needs
-
-same-length : tie.Need-same-length
-same-length c = search needs
+slice-aggregate-put c = sym (length-take-le _ (c .before .before .before .before .gather .result .numbers) (array-share-prefix-numbers (c .before)))
 
 returns-5 : tie.Need-returns-5
 returns-5 c =
-    let t = c .before .before .before .before .before in let g = t .before .before in let a = g .before .before .before .before .args in let l = g .gather .result .numbers in let before = now (a .list) in
-    let n = counted (g .before) in let room : 2 * a .count ≤ length before = omega arith in
+    let t = c .before .before .before .before .before in
+    let g = t .before .before in
+    let a = g .before .before .before .before .args in
+    let l = g .gather .result .numbers in
+    let before = now (a .list) in
+    let n = counted (g .before) in
+    let room : 2 * a .count ≤ length before = omega arith in
     let h = gathered t in
     let front = take (2 * a .count) l in
-    let w = written (putChecks front before) (sharp-demand _ _, tt) (fronted front before) before _ (c .before .put .result) (c .before .put .ensures) (put-fits (a .corners) (a .count) l before (h .1) (n .most) room, tt) in
+    let fits = put-fits (a .corners) (a .count) l before (h .1) (n .most) room in
+    let w = written (putChecks front before) (sharp-demand _ _, tt) (fronted front before) before _ (c .before .put .result) (c .before .put .ensures) (fits, tt) in
     rw (w .0, w .1) record {
       finds = all-good (a .corners) (a .count) (length before) n room l (h .0);
       list = put-later (a .corners) (a .count) l before (h .1) (n .most) room (h .0);
@@ -91,15 +77,15 @@ intake-spec =
     (tie.spec
     returns
     returns-2
-    mul-if3
+    (λ c. search needs)
     returns-3
-    gather-requires
-    enum-told
-    enum-told-2
+    (λ c κs. search needs)
+    (λ c. search needs)
+    (λ c. search needs)
     returns-4
-    mul-numbers
+    (λ c. search needs)
     array-share-prefix-numbers
     slice-aggregate-put
-    put-requires
-    same-length
+    (λ c κs. search needs)
+    (λ c. search needs)
     returns-5)

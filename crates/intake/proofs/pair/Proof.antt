@@ -26,9 +26,6 @@ no-grid t o k e =
 take-requires : tie.Need-take-requires
 take-requires c κs = tt
 
-enum-known-first : tie.Need-enum-known-first
-enum-known-first c = search needs
-
 refused-requires : tie.Need-refused-requires
 refused-requires c κs = tt
 
@@ -39,9 +36,6 @@ returns c =
 
 take-requires-2 : tie.Need-take-requires-2
 take-requires-2 c κs = tt
-
-enum-known-second : tie.Need-enum-known-second
-enum-known-second c = search needs
 
 refused-requires-2 : tie.Need-refused-requires-2
 refused-requires-2 c κs = tt
@@ -68,11 +62,11 @@ pair-spec =
     tie.close
     (tie.spec
     take-requires
-    enum-known-first
+    (λ c. search needs)
     refused-requires
     returns
     take-requires-2
-    enum-known-second
+    (λ c. search needs)
     refused-requires-2
     returns-2
     returns-3)

@@ -4,7 +4,8 @@ use mathlib.Core.Logic.{inl}
 use native.Mathlib.Omega.{arith}
 use borrow.Author.Needs.{needs}
 use Rattle.rules.specs.Good.{runChecks}
-use Rattle.piece.proofs.Decide.{none-found, first-found}
+use Rattle.whole.proofs.Decide.{none-found}
+use Rattle.rules.proofs.Checks.{first-found}
 use Rattle.piece.proofs.check_run.Statement.{statement}
 use Rattle.piece.proofs.check_run.Tie as tie
 

@@ -6,7 +6,8 @@ use Rattle.piece.specs.Numbers.{runOf}
 use Rattle.block.specs.declared.RunRead.the-variants.{Found}
 use Rattle.block.specs.Reading.{RunSays}
 use Rattle.block.proofs.RunLaws.{good-ticks}
-use Rattle.baker.specs.Listed.{out, runListed}
+use Rattle.baker.specs.Coded.{out, coded}
+use Rattle.baker.specs.Listed.{runListed}
 use Rattle.baker.proofs.Codes.{by}
 use borrow.Author.Needs.{needs}
 use Rattle.baker.proofs.blocks.baker_read_run.Statement.{statement}
@@ -14,18 +15,6 @@ use Rattle.baker.proofs.blocks.baker_read_run.Tie as tie
 
 found : (c : tie.After-run) → RunSays (now (c .before .before .before .before .args .block)) (Found (c .run .given .0 .0))
 found c = subst (RunSays (now (c .before .before .before .before .args .block))) (c .run .given .1) (c .before .before .read-run .ensures)
-
-read-run-requires : tie.Need-read-run-requires
-read-run-requires c κs = search needs
-
-enum-known-x : tie.Need-enum-known-x
-enum-known-x c = search needs
-
-refusal-requires : tie.Need-refusal-requires
-refusal-requires c κs = search needs
-
-enum-known-run : tie.Need-enum-known-run
-enum-known-run c = search needs
 
 put-run-requires : tie.Need-put-run-requires
 put-run-requires c κs = let g = c .before .before .run .given in good-ticks (runOf (g .0 .0)) (found (c .before .before) .good)
@@ -38,11 +27,8 @@ returns c =
     record {
       answer = k .result;
       says = k .ensures;
-      code = by (runListed b) (c .before .before .x .given .1) (ap (λ (n : ℕ). out n b) (c .refusal .ensures));
+      code = by (λ r. coded (runListed b r)) (c .before .before .x .given .1) (ap (λ (n : ℕ). out n b) (c .refusal .ensures));
     }
-
-same-length : tie.Need-same-length
-same-length c = search needs
 
 returns-2 : tie.Need-returns-2
 returns-2 c =
@@ -57,11 +43,11 @@ pub baker-read-run-spec : {M : Type 1} → statement M
 baker-read-run-spec =
     tie.close
     (tie.spec
-    read-run-requires
-    enum-known-x
-    refusal-requires
-    enum-known-run
+    (λ c κs. search needs)
+    (λ c. search needs)
+    (λ c κs. search needs)
+    (λ c. search needs)
     put-run-requires
     returns
-    same-length
+    (λ c. search needs)
     returns-2)

@@ -26,7 +26,9 @@ same-length c = search needs
 returns : tie.Need-returns
 returns c =
     let w = c .before .before .before in let s = w .before .before .before .before in let a = s .args in let f = s .fits in let before = now (a .block) in
-    coded-back (λ (k : Piece). Writes (pieceAsked before k) (pieceBlock k) before (w .write-piece .last .1 .1 .0)) checkedCode (w .write-piece .result) (w .before .before .band-of .ensures (now (a .corners)) ∙ piece-back (f .bottom) (f .top) (f .vx) (f .vy) (f .vz)) (w .write-piece .ensures) (c .checked .ensures)
+    let after = w .write-piece .last .1 .1 .0 in
+    let same = w .before .before .band-of .ensures (now (a .corners)) ∙ piece-back (f .bottom) (f .top) (f .vx) (f .vy) (f .vz) in
+    coded-back (λ (k : Piece). Writes (pieceAsked before k) (pieceBlock k) before after) checkedCode (w .write-piece .result) same (w .write-piece .ensures) (c .checked .ensures)
 
 pub baker-write-piece-spec : {M : Type 1} → statement M
 baker-write-piece-spec =

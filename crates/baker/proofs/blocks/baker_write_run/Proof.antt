@@ -26,7 +26,9 @@ same-length c = search needs
 returns : tie.Need-returns
 returns c =
     let w = c .before .before .before in let s = w .before .before .before .before in let f = s .fits in let before = now (s .args .block) in
-    coded-back (λ (r : Run). Writes (runAsked before r) (runBlock r) before (w .write-run .last .1 .0)) checkedCode (w .write-run .result) (w .before .before .run-of .ensures ∙ run-back (f .x) (f .y) (f .z) (f .vx) (f .vy) (f .vz)) (w .write-run .ensures) (c .checked .ensures)
+    let after = w .write-run .last .1 .0 in
+    let same = w .before .before .run-of .ensures ∙ run-back (f .x) (f .y) (f .z) (f .vx) (f .vy) (f .vz) in
+    coded-back (λ (r : Run). Writes (runAsked before r) (runBlock r) before after) checkedCode (w .write-run .result) same (w .write-run .ensures) (c .checked .ensures)
 
 pub baker-write-run-spec : {M : Type 1} → statement M
 baker-write-run-spec =

@@ -1,5 +1,6 @@
 -- `baker_take` meets its contract. Assumes nothing.
 use mathlib.Core.Path.{_≡_, refl, ap}
+use Prim.Native.Nat.{ℕ}
 use native.Mathlib.Omega.{arith}
 use denote.Ref.{now}
 use lib.IntN.{ℤ}
@@ -7,8 +8,8 @@ use mir.Syntax.{w32}
 use Rattle.whole.proofs.Range.{field}
 use Rattle.intake.specs.declared.Taken.{Taken}
 use Rattle.intake.specs.Number.{Answer}
-use Rattle.baker.specs.Coded.{Coded}
-use Rattle.baker.specs.Export.{One, one, takenOne}
+use Rattle.baker.specs.Coded.{Coded, Out, out, coded}
+use Rattle.baker.specs.Export.{Lent, lent, takenOne}
 use Rattle.baker.proofs.Codes.{by}
 use borrow.Author.Needs.{needs}
 use Rattle.baker.proofs.export.baker_take.Statement.{statement}
@@ -16,31 +17,16 @@ use Rattle.baker.proofs.export.baker_take.Tie as tie
 
 -- one case of the answer, and what is made of it
 module _ (t : tie.After-take) where
-  abbrev made : Taken → One
-  made = takenOne (now (t .before .args .grid)) (now (t .before .args .floor))
+  abbrev made : Taken → Out ℕ Lent
+  made k = coded (takenOne (now (t .before .args .grid)) (now (t .before .args .floor)) k)
 
-  taken : {k : Taken} {o : One} → t .take .result ≡ k → o ≡ made k → Coded (Answer (t .before .args .x)) made o
+  taken : {k : Taken} {o : Out ℕ Lent} → t .take .result ≡ k → o ≡ made k → Coded (Answer (t .before .args .x)) made o
   taken e h = record { answer = t .take .result; says = t .take .ensures; code = by made e h }
-
-take-requires : tie.Need-take-requires
-take-requires c κs = search needs
-
-enum-known-k : tie.Need-enum-known-k
-enum-known-k c = search needs
-
-enum-known-below : tie.Need-enum-known-below
-enum-known-below c = search needs
-
-enum-told : tie.Need-enum-told
-enum-told c = search needs
-
-enum-told-2 : tie.Need-enum-told-2
-enum-told-2 c = search needs
 
 returns : tie.Need-returns
 returns c =
     let g = c .before .k .given in
-    taken (c .before .before .before) (g .1) (ap (λ (z : ℤ). one 0 z (now (c .before .before .before .before .args .floor))) (field w32 (g .0 .0) (omega arith)))
+    taken (c .before .before .before) (g .1) (ap (λ (z : ℤ). out 0 (lent z (now (c .before .before .before .before .args .floor)))) (field w32 (g .0 .0) (omega arith)))
 
 returns-2 : tie.Need-returns-2
 returns-2 c = taken (c .before .before .before) (c .before .below .given .1) refl
@@ -55,11 +41,11 @@ pub baker-take-spec : {M : Type 1} → statement M
 baker-take-spec =
     tie.close
     (tie.spec
-    take-requires
-    enum-known-k
-    enum-known-below
-    enum-told
-    enum-told-2
+    (λ c κs. search needs)
+    (λ c. search needs)
+    (λ c. search needs)
+    (λ c. search needs)
+    (λ c. search needs)
     returns
     returns-2
     returns-3

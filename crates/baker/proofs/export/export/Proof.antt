@@ -32,7 +32,8 @@ returns-3 c =
     let k = c .before .before .before in
     let e = k .before .before in
     let s = e .before .before in
-    exported (now (s .args .numbers)) (k .corners-of .result) (now (s .args .list)) (c .before .intake .last .1 .1 .0) (c .before .intake .result) (e .if1 .left) (k .corners-of .ensures) (c .before .intake .ensures)
+    let i = c .before .intake in let after = i .last .1 .1 .0 in
+    exported (now (s .args .numbers)) (k .corners-of .result) (now (s .args .list)) after (i .result) (e .if1 .left) (k .corners-of .ensures) (i .ensures)
 
 pub export-spec : {M : Type 1} → statement M
 export-spec =

@@ -26,8 +26,8 @@ same-length c = search needs
 -- whatever corners the file has
 returns : tie.Need-returns
 returns c =
-    let w = c .before .before in let s = w .before .before .before .before in let a = s .args in let f = s .fits in
-    coded-back (λ (k : List ℤ → Piece). ObjSays (now (a .file)) k (now (a .list)) (w .footprint .last .1 .1 .0)) outlineCode (w .footprint .result)
+    let w = c .before .before in let s = w .before .before .before .before in let a = s .args in let f = s .fits in let after = w .footprint .last .1 .1 .0 in
+    coded-back (λ (k : List ℤ → Piece). ObjSays (now (a .file)) k (now (a .list)) after) outlineCode (w .footprint .result)
     (fun-ext (λ l. w .before .before .band-of .ensures l ∙ piece-back {l = l} (f .bottom) (f .top) (f .vx) (f .vy) (f .vz)))
     (w .footprint .ensures) (c .outline .ensures)
 

@@ -12,7 +12,9 @@ use Rattle.piece.specs.Numbers.{pieceOf}
 use Rattle.block.specs.Layout.{pieceNumbers}
 use Rattle.block.specs.declared.PieceRead.{PieceRead}
 use Rattle.block.proofs.PieceLaws.{machine, bandNumbers, read-band}
-use Rattle.baker.specs.Listed.{out, pieceFound}
+use Rattle.refusal.specs.declared.Checked.{Checked}
+use Rattle.baker.specs.Coded.{Out, out, coded}
+use Rattle.baker.specs.Listed.{pieceFound}
 use Rattle.baker.proofs.Codes.{by}
 use Rattle.baker.proofs.Listed.{long, short, put-fits, laid-two}
 use borrow.Author.Needs.{needs}
@@ -34,39 +36,22 @@ rest r = take (2 * r .count) (r .corners)
 abbrev numbers : PieceRead → List ℤ
 numbers r = pieceNumbers (pieceOf (r .band) (rest r))
 
-enum-known-found : tie.Need-enum-known-found
-enum-known-found c = search needs
-
-refusal-requires : tie.Need-refusal-requires
-refusal-requires c κs = search needs
+-- what is made of each case
+abbrev made : List ℤ → PieceRead → Checked → Out ℕ (List ℤ)
+made b r x = coded (pieceFound b r x)
 
 returns : tie.Need-returns
 returns c =
     let s = c .before .before .before .before in
     let b = now (s .args .list) in
-    by (pieceFound b (s .args .read)) (c .before .before .found .given .1) (ap (λ (k : ℕ). out k b) (c .refusal .ensures))
-
-enum-told : tie.Need-enum-told
-enum-told c = search needs
-
-refusal-requires-2 : tie.Need-refusal-requires-2
-refusal-requires-2 c κs = search needs
+    by (made b (s .args .read)) (c .before .before .found .given .1) (ap (λ (k : ℕ). out k b) (c .refusal .ensures))
 
 returns-2 : tie.Need-returns-2
 returns-2 c =
     let s = c .before .before .before .before in
     let b = now (s .args .list) in
     let r = s .args .read in
-    by (pieceFound b r) (c .before .before .enum-told .given .1) (ap (λ (k : ℕ). out k b) (c .refusal2 .ensures) ∙ sym (short 133 b (r .count) (numbers r) (c .before .if1 .taken)))
-
-slice-aggregate-put : tie.Need-slice-aggregate-put
-slice-aggregate-put c = search needs
-
-put-requires : tie.Need-put-requires
-put-requires c κs = search needs
-
-mul-corners : tie.Need-mul-corners
-mul-corners c = search needs
+    by (made b r) (c .before .before .enum-told .given .1) (ap (λ (k : ℕ). out k b) (c .refusal2 .ensures) ∙ sym (short 133 b (r .count) (numbers r) (c .before .if1 .taken)))
 
 array-share-prefix-corners : tie.Need-array-share-prefix-corners
 array-share-prefix-corners c = c .before .before .before .before .before .before .before .before .before .before .pre .corners
@@ -74,29 +59,16 @@ array-share-prefix-corners c = c .before .before .before .before .before .before
 slice-aggregate-put-2 : tie.Need-slice-aggregate-put-2
 slice-aggregate-put-2 c = sym (length-take-le _ _ (array-share-prefix-corners (c .before)))
 
-sub-put : tie.Need-sub-put
-sub-put c = search needs
-
-part-put-start : tie.Need-part-put-start
-part-put-start c = search needs
-
-part-put-end : tie.Need-part-put-end
-part-put-end c = search needs
-
-put-requires-2 : tie.Need-put-requires-2
-put-requires-2 c κs = search needs
-
-same-length : tie.Need-same-length
-same-length c = search needs
-
 returns-3 : tie.Need-returns-3
 returns-3 c =
-    let q = c .before .before .before .before .before .before in let e = q .before .before .before .before .before in let s = e .before .before .before in let b = now (s .args .list) in let r = s .args .read in
+    let q = c .before .before .before .before .before .before in let e = q .before .before .before .before .before in
+    let s = e .before .before .before in let b = now (s .args .list) in let r = s .args .read in
     let l = q .put .last .1 .0 in let n = length l - 5 in
     let first = put-fits (machine (r .band)) b l (q .put .result) (omega arith) (q .put .ensures) ∙ ap (λ (m : List ℤ). fronted m b) (same s) in
-    let room : length (rest r) ≤ length (take n (drop 5 l)) = let h = s .pre .count in omega (arith, length-take-le (2 * r .count) (r .corners) (s .pre .corners), length-take n (drop 5 l), length-drop 5 l, q .put .kept) in
+    let few = s .pre .count in let held = length-take-le (2 * r .count) (r .corners) (s .pre .corners) in
+    let room : length (rest r) ≤ length (take n (drop 5 l)) = omega (arith, held, length-take n (drop 5 l), length-drop 5 l, q .put .kept) in
     let second = put-fits (rest r) (take n (drop 5 l)) _ (c .before .put2 .result) room (c .before .put2 .ensures) in
-    by (pieceFound b r) (e .before .enum-told .given .1)
+    by (made b r) (e .before .enum-told .given .1)
     (ap (out (r .count))
     (ap (λ (m : List ℤ). take 5 l ++ (m ++ drop n (drop 5 l))) second
     ∙ ap (λ (m : List ℤ). take 5 m ++ (fronted (rest r) (take (length m - 5) (drop 5 m)) ++ drop (length m - 5) (drop 5 m))) first
@@ -107,20 +79,20 @@ pub put-piece-spec : {M : Type 1} → statement M
 put-piece-spec =
     tie.close
     (tie.spec
-    enum-known-found
-    refusal-requires
+    (λ c. search needs)
+    (λ c κs. search needs)
     returns
-    enum-told
-    refusal-requires-2
+    (λ c. search needs)
+    (λ c κs. search needs)
     returns-2
-    slice-aggregate-put
-    put-requires
-    mul-corners
+    (λ c. search needs)
+    (λ c κs. search needs)
+    (λ c. search needs)
     array-share-prefix-corners
     slice-aggregate-put-2
-    sub-put
-    part-put-start
-    part-put-end
-    put-requires-2
-    same-length
+    (λ c. search needs)
+    (λ c. search needs)
+    (λ c. search needs)
+    (λ c κs. search needs)
+    (λ c. search needs)
     returns-3)

@@ -8,7 +8,8 @@ use lib.ListN.{length}
 use Rattle.piece.specs.Numbers.{runOf}
 use Rattle.block.specs.Layout.{runNumbers}
 use Rattle.block.proofs.RunLaws.{machine, read-run}
-use Rattle.baker.specs.Listed.{out, listed}
+use Rattle.baker.specs.Coded.{out, coded}
+use Rattle.baker.specs.Listed.{listed}
 use Rattle.baker.proofs.Listed.{put-listed}
 use borrow.Author.Needs.{needs}
 use Rattle.baker.proofs.list.put_run.Statement.{statement}
@@ -43,7 +44,8 @@ same-length c = search needs
 returns : tie.Need-returns
 returns c =
     let p = c .before .before in let s = p .before .before .before .before .before in let before = now (s .args .list) in
-    subst (λ (l : List ℤ). out (c .checked .result) (p .put .last .1 .0) ≡ listed (length l) before 0 l) (same s) (put-listed (machine (s .args .run)) before _ (p .put .result) (c .checked .result) (p .put .ensures) (c .checked .ensures))
+    subst (λ (l : List ℤ). out (c .checked .result) (p .put .last .1 .0) ≡ coded (listed (length l) before 0 l)) (same s)
+    (put-listed (machine (s .args .run)) before _ (p .put .result) (c .checked .result) (p .put .ensures) (c .checked .ensures))
 
 pub put-run-spec : {M : Type 1} → statement M
 put-run-spec =

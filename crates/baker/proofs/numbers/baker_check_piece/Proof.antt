@@ -22,7 +22,8 @@ checked-requires c κs = search needs
 returns : tie.Need-returns
 returns c =
     let w = c .before in let s = w .before .before in let f = s .fits in
-    coded-back (λ (k : Piece). Finds (pieceChecks k)) checkedCode (w .check-piece .result) (w .before .band-of .ensures (now (s .args .corners)) ∙ piece-back (f .bottom) (f .top) (f .vx) (f .vy) (f .vz)) (w .check-piece .ensures) (c .checked .ensures)
+    let same = w .before .band-of .ensures (now (s .args .corners)) ∙ piece-back (f .bottom) (f .top) (f .vx) (f .vy) (f .vz) in
+    coded-back (λ (k : Piece). Finds (pieceChecks k)) checkedCode (w .check-piece .result) same (w .check-piece .ensures) (c .checked .ensures)
 
 pub baker-check-piece-spec : {M : Type 1} → statement M
 baker-check-piece-spec =

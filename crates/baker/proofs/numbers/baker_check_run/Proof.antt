@@ -21,7 +21,8 @@ checked-requires c κs = search needs
 returns : tie.Need-returns
 returns c =
     let f = c .before .before .before .fits in
-    coded-back (λ (r : Run). Finds (runChecks r)) checkedCode (c .before .check-run .result) (c .before .before .run-of .ensures ∙ run-back (f .x) (f .y) (f .z) (f .vx) (f .vy) (f .vz)) (c .before .check-run .ensures) (c .checked .ensures)
+    let same = c .before .before .run-of .ensures ∙ run-back (f .x) (f .y) (f .z) (f .vx) (f .vy) (f .vz) in
+    coded-back (λ (r : Run). Finds (runChecks r)) checkedCode (c .before .check-run .result) same (c .before .check-run .ensures) (c .checked .ensures)
 
 pub baker-check-run-spec : {M : Type 1} → statement M
 baker-check-run-spec =

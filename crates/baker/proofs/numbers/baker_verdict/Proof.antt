@@ -24,7 +24,9 @@ verdict-requires-2 c κs = search needs
 returns : tie.Need-returns
 returns c =
     let w = c .before in let s = w .before .before .before in let f = s .fits in let l = now (s .args .corners) in
-    coded-back (λ (q : Run × Piece). Tells (q .0) (q .1)) verdictCode (w .verdict .result) (λ i. ((w .before .before .run-of .ensures ∙ run-back {t = s .args .ticks} (f .x) (f .y) (f .z) (f .vx) (f .vy) (f .vz)) i, (w .before .band-of .ensures l ∙ piece-back {l = l} (f .bottom) (f .top) (f .ux) (f .uy) (f .uz)) i)) (w .verdict .ensures) (c .verdict2 .ensures)
+    let given-run = w .before .before .run-of .ensures ∙ run-back {t = s .args .ticks} (f .x) (f .y) (f .z) (f .vx) (f .vy) (f .vz) in
+    let given-piece = w .before .band-of .ensures l ∙ piece-back {l = l} (f .bottom) (f .top) (f .ux) (f .uy) (f .uz) in
+    coded-back (λ (q : Run × Piece). Tells (q .0) (q .1)) verdictCode (w .verdict .result) (λ i. (given-run i, given-piece i)) (w .verdict .ensures) (c .verdict2 .ensures)
 
 pub baker-verdict-spec : {M : Type 1} → statement M
 baker-verdict-spec =

@@ -27,7 +27,10 @@ same-length c = search needs
 returns : tie.Need-returns
 returns c =
     let w = c .before .before .before in let s = w .before .before .before .before .before in let f = s .fits in let l = now (s .args .corners) in
-    coded-back (λ (q : Run × Piece). AskSays (now (s .args .book)) (w .ask .last .0) (q .0) (q .1)) askedCode (w .ask .result) (λ i. ((w .before .before .before .run-of .ensures ∙ run-back {t = s .args .ticks} (f .x) (f .y) (f .z) (f .vx) (f .vy) (f .vz)) i, (w .before .before .band-of .ensures l ∙ piece-back {l = l} (f .bottom) (f .top) (f .ux) (f .uy) (f .uz)) i)) (w .ask .ensures) (c .asked .ensures)
+    let after = w .ask .last .0 in
+    let given-run = w .before .before .before .run-of .ensures ∙ run-back {t = s .args .ticks} (f .x) (f .y) (f .z) (f .vx) (f .vy) (f .vz) in
+    let given-piece = w .before .before .band-of .ensures l ∙ piece-back {l = l} (f .bottom) (f .top) (f .ux) (f .uy) (f .uz) in
+    coded-back (λ (q : Run × Piece). AskSays (now (s .args .book)) after (q .0) (q .1)) askedCode (w .ask .result) (λ i. (given-run i, given-piece i)) (w .ask .ensures) (c .asked .ensures)
 
 pub baker-ask-spec : {M : Type 1} → statement M
 baker-ask-spec =

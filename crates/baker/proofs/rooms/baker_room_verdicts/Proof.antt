@@ -24,7 +24,9 @@ same-length c = search needs
 returns : tie.Need-returns
 returns c =
     let w = c .before .before .before in let s = w .before .before .before .before .before in let f = s .fits in
-    coded-back (λ (r : Run). VerdictsSay r (now (s .args .image)) (now (s .args .list)) (w .verdicts .last .1 .1 .0)) countedCode (w .verdicts .result) (w .before .before .run-of .ensures ∙ run-back (f .x) (f .y) (f .z) (f .vx) (f .vy) (f .vz)) (w .verdicts .ensures) (c .counted .ensures)
+    let after = w .verdicts .last .1 .1 .0 in
+    let same = w .before .before .run-of .ensures ∙ run-back (f .x) (f .y) (f .z) (f .vx) (f .vy) (f .vz) in
+    coded-back (λ (r : Run). VerdictsSay r (now (s .args .image)) (now (s .args .list)) after) countedCode (w .verdicts .result) same (w .verdicts .ensures) (c .counted .ensures)
 
 pub baker-room-verdicts-spec : {M : Type 1} → statement M
 baker-room-verdicts-spec =

@@ -5,16 +5,16 @@ use borrow.Author.Needs.{needs}
 use native.Mathlib.Omega.{arith}
 use lib.ListN.{length, length-set}
 use lib.Seq.{getD-set-other}
-use Rattle.block.specs.Layout.{byte}
+use Rattle.block.specs.Layout.{blockSize, bodySize, byte}
 use Rattle.block.proofs.Pairs.{cleared}
 use Rattle.block.proofs.fill.clear.Statement.{statement}
 use Rattle.block.proofs.fill.clear.Tie as tie
 
 abbrev Inv-loop : tie.InvT-loop
-Inv-loop block₀ from i₀ block i = (length block ≡ 512) × (from ≤ i) × (i ≤ 510) × ((k : ℕ) → k < from → byte block k ≡ byte block₀ k) × ((k : ℕ) → from ≤ k → k < i → byte block k ≡ 0)
+Inv-loop block₀ from i₀ block i = (length block ≡ blockSize) × (from ≤ i) × (i ≤ bodySize) × ((k : ℕ) → k < from → byte block k ≡ byte block₀ k) × ((k : ℕ) → from ≤ k → k < i → byte block k ≡ 0)
 
 abbrev μ-loop : tie.MeasureT-loop
-μ-loop block₀ from i₀ block i = 510 - i
+μ-loop block₀ from i₀ block i = bodySize - i
 
 loop-holds : tie.Need-loop-holds Inv-loop μ-loop
 loop-holds c = (search needs, omega arith, omega arith, λ k h. refl, λ k g h. absurd (omega arith))
@@ -37,7 +37,7 @@ same-length : tie.Need-same-length Inv-loop μ-loop
 same-length c = omega arith
 
 returns : tie.Need-returns Inv-loop μ-loop
-returns c = (c .before .loop .inv .0, (c .before .loop .inv .3, λ i g h. c .before .loop .inv .4 i g (omega arith)))
+returns c = let v = c .before .loop in record { long = v .inv .0; stays = v .inv .3; zeros = λ i g h. v .inv .4 i g (omega arith) }
 
 pub clear-spec : {M : Type 1} → statement M
 clear-spec =

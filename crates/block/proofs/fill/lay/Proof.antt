@@ -24,12 +24,6 @@ abbrev μ-loop : tie.MeasureT-loop
 loop-holds : tie.Need-loop-holds Inv-loop μ-loop
 loop-holds c = (search needs, omega arith, λ k h. absurd (omega arith))
 
-mul-pair : tie.Need-mul-pair Inv-loop μ-loop
-mul-pair c = search needs
-
-shared-slice-copy-out-pair : tie.Need-shared-slice-copy-out-pair Inv-loop μ-loop
-shared-slice-copy-out-pair c = search needs
-
 pair-requires : tie.Need-pair-requires Inv-loop μ-loop
 pair-requires c κs =
     let v = c .before .before .before .loop in
@@ -46,7 +40,10 @@ loop-again : tie.Need-loop-again Inv-loop μ-loop
 loop-again c =
     let v = c .before .before .before .before .before .before .loop in
     let a = c .before .before .before .before .before .before .before .before .args in
-    let e = c .before .before .pair .ensures ∙ ap (λ z. set (set (v .bytes) (2 * v .j) (word z % 256)) (2 * v .j + 1) (word z / 256)) (field w32 (getD (a .numbers .now) (v .j) (pos 0)) (c .before .before .before .pair-arg2 .given)) in (
+    let n = getD (a .numbers .now) (v .j) (pos 0) in
+    let e =
+    c .before .before .pair .ensures
+    ∙ ap (λ z. set (set (v .bytes) (2 * v .j) (word z % 256)) (2 * v .j + 1) (word z / 256)) (field w32 n (c .before .before .before .pair-arg2 .given)) in (
       ap length e ∙ simp length-set (v .inv .0),
       omega arith,
       subst (λ (l : List ℕ). (k : ℕ) → k < 2 * (v .j + 1) → byte l k ≡ byte (words (a .numbers .now)) k) (sym e) (paired (a .numbers .now) (v .bytes) (v .j) (omega arith) (v .inv .2)),
@@ -68,8 +65,8 @@ lay-spec =
     Inv-loop
     μ-loop
     loop-holds
-    mul-pair
-    shared-slice-copy-out-pair
+    (λ c. search needs)
+    (λ c. search needs)
     pair-requires
     add-j
     loop-less

@@ -11,26 +11,8 @@ use Rattle.block.proofs.Words.{word-below}
 use Rattle.block.proofs.fill.pair.Statement.{statement}
 use Rattle.block.proofs.fill.pair.Tie as tie
 
-bits-of-requires : tie.Need-bits-of-requires
-bits-of-requires c κs = search needs
-
-low-requires : tie.Need-low-requires
-low-requires c κs = search needs
-
-mul-bytes : tie.Need-mul-bytes
-mul-bytes c = search needs
-
-slice-write-bytes : tie.Need-slice-write-bytes
-slice-write-bytes c = search needs
-
 high-requires : tie.Need-high-requires
 high-requires c κs = let b = c .before .before .before in omega (arith, c .before .bits-of .ensures ∙ ap word (field w32 (b .args .z) (b .fits .z .sfits)), word-below _ (b .pre .1))
-
-mul-bytes-2 : tie.Need-mul-bytes-2
-mul-bytes-2 c = search needs
-
-add-bytes : tie.Need-add-bytes
-add-bytes c = search needs
 
 slice-write-bytes-2 : tie.Need-slice-write-bytes-2
 slice-write-bytes-2 c = simp length-set (omega arith)
@@ -48,13 +30,13 @@ pub pair-spec : {M : Type 1} → statement M
 pair-spec =
     tie.close
     (tie.spec
-    bits-of-requires
-    low-requires
-    mul-bytes
-    slice-write-bytes
+    (λ c κs. search needs)
+    (λ c κs. search needs)
+    (λ c. search needs)
+    (λ c. search needs)
     high-requires
-    mul-bytes-2
-    add-bytes
+    (λ c. search needs)
+    (λ c. search needs)
     slice-write-bytes-2
     same-length
     returns)

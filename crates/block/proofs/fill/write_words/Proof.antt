@@ -4,7 +4,8 @@ use mathlib.Core.Logic.{inl, inr}
 use native.Mathlib.Omega.{arith}
 use borrow.Author.Needs.{needs}
 use Rattle.rules.proofs.Reach.{between-stable}
-use Rattle.piece.proofs.Decide.{none-found, first-found}
+use Rattle.whole.proofs.Decide.{none-found}
+use Rattle.rules.proofs.Checks.{first-found}
 use Rattle.block.specs.Reading.{wordsAsked}
 use Rattle.block.proofs.fill.write_words.Statement.{statement}
 use Rattle.block.proofs.fill.write_words.Tie as tie
@@ -17,21 +18,12 @@ returns-2 : tie.Need-returns-2
 unfolding wordsAsked
 returns-2 c = (inl (λ h. omega arith, refl), refl)
 
-first-wide-requires : tie.Need-first-wide-requires
-first-wide-requires c κs = search needs
-
-mul-t10 : tie.Need-mul-t10
-mul-t10 c = search needs
-
 returns-3 : tie.Need-returns-3
 unfolding wordsAsked
 returns-3 c = (inr (omega arith, inl (_, first-found (c .before .first-wide .ensures) (c .if3 .taken), refl)), refl)
 
 lay-requires : tie.Need-lay-requires
 lay-requires c κs = (omega arith, λ j h. between-stable _ _ _ (none-found (c .before .before .first-wide .ensures) (c .before .if3 .left) j h))
-
-same-length : tie.Need-same-length
-same-length c = search needs
 
 returns-4 : tie.Need-returns-4
 unfolding wordsAsked
@@ -43,9 +35,9 @@ write-words-spec =
     (tie.spec
     returns
     returns-2
-    first-wide-requires
-    mul-t10
+    (λ c κs. search needs)
+    (λ c. search needs)
     returns-3
     lay-requires
-    same-length
+    (λ c. search needs)
     returns-4)

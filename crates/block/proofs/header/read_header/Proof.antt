@@ -9,15 +9,6 @@ use borrow.Author.Needs.{needs}
 use Rattle.block.proofs.header.read_header.Statement.{statement}
 use Rattle.block.proofs.header.read_header.Tie as tie
 
-check-kind-requires : tie.Need-check-kind-requires
-check-kind-requires c κs = search needs
-
-enum-known-x : tie.Need-enum-known-x
-enum-known-x c = search needs
-
-enum-told : tie.Need-enum-told
-enum-told c = search needs
-
 passes : (c : tie.After-shared-slice-known2) → Passes (headerChecks (now (c .before .before .before .before .before .args .block)))
 unfolding headerChecks
 passes c = found-good (headerChecks (now (c .before .before .before .before .before .args .block))) _ (c .before .before .before .check-kind .ensures) (c .before .enum-told .given .1)
@@ -39,9 +30,9 @@ pub read-header-spec : {M : Type 1} → statement M
 read-header-spec =
     tie.close
     (tie.spec
-    check-kind-requires
-    enum-known-x
-    enum-told
+    (λ c κs. search needs)
+    (λ c. search needs)
+    (λ c. search needs)
     shared-slice-read-t7
     cast-t8
     returns

@@ -16,30 +16,24 @@ returns-2 : tie.Need-returns-2
 unfolding headerAsked
 returns-2 c = (inr (c .before .if1 .left, inl (λ h. omega arith, refl)), refl)
 
-header-front-requires : tie.Need-header-front-requires
-header-front-requires c κs = search needs
+lay-header-requires : tie.Need-lay-header-requires
+lay-header-requires c κs = search needs
 
-slice-aggregate-put : tie.Need-slice-aggregate-put
-slice-aggregate-put c = search needs
-
-put-requires : tie.Need-put-requires
-put-requires c κs = search needs
+finish-requires : tie.Need-finish-requires
+finish-requires c κs = search needs
 
 same-length : tie.Need-same-length
 same-length c = search needs
 
 returns-3 : tie.Need-returns-3
 unfolding headerAsked headerBlock
-returns-3 c = ((c .before .before .before .before .before .before .before .if1 .left, (c .before .before .before .before .before .before .if2 .left, tt)), c .before .before .put .ensures ∙ ap blockOf (c .before .before .before .before .before .header-front .ensures))
+returns-3 c =
+    let f = c .before .before in let d = f .before .before .before .before in let b = d .before .before in (
+      (b .before .if1 .left, (b .if2 .left, tt)),
+      f .finish .ensures ∙ ap blockOf (d .lay-header .ensures),
+    )
 
 pub write-header-spec : {M : Type 1} → statement M
 write-header-spec =
     tie.close
-    (tie.spec
-    returns
-    returns-2
-    header-front-requires
-    slice-aggregate-put
-    put-requires
-    same-length
-    returns-3)
+    (tie.spec returns returns-2 lay-header-requires finish-requires same-length returns-3)

@@ -5,24 +5,6 @@ use borrow.Author.Needs.{needs}
 use Rattle.block.proofs.kind.check_bytes.Statement.{statement}
 use Rattle.block.proofs.kind.check_bytes.Tie as tie
 
-enum-told : tie.Need-enum-told
-enum-told c = search needs
-
-check-header-bytes-requires : tie.Need-check-header-bytes-requires
-check-header-bytes-requires c κs = search needs
-
-enum-told-2 : tie.Need-enum-told-2
-enum-told-2 c = search needs
-
-check-run-bytes-requires : tie.Need-check-run-bytes-requires
-check-run-bytes-requires c κs = search needs
-
-enum-told-3 : tie.Need-enum-told-3
-enum-told-3 c = search needs
-
-check-piece-bytes-requires : tie.Need-check-piece-bytes-requires
-check-piece-bytes-requires c κs = search needs
-
 returns : tie.Need-returns
 returns c = of-kind (now (c .before .before .before .before .args .block)) (c .check-header-bytes .result) (c .before .enum-told .given .1) (c .check-header-bytes .ensures)
 
@@ -36,12 +18,12 @@ pub check-bytes-spec : {M : Type 1} → statement M
 check-bytes-spec =
     tie.close
     (tie.spec
-    enum-told
-    check-header-bytes-requires
-    enum-told-2
-    check-run-bytes-requires
-    enum-told-3
-    check-piece-bytes-requires
+    (λ c. search needs)
+    (λ c κs. search needs)
+    (λ c. search needs)
+    (λ c κs. search needs)
+    (λ c. search needs)
+    (λ c κs. search needs)
     returns
     returns-2
     returns-3)

@@ -7,15 +7,6 @@ use borrow.Author.Needs.{needs}
 use Rattle.block.proofs.kind.check_kind.Statement.{statement}
 use Rattle.block.proofs.kind.check_kind.Tie as tie
 
-check-block-requires : tie.Need-check-block-requires
-check-block-requires c κs = search needs
-
-enum-known-x : tie.Need-enum-known-x
-enum-known-x c = search needs
-
-enum-told : tie.Need-enum-told
-enum-told c = search needs
-
 check-bytes-requires : tie.Need-check-bytes-requires
 unfolding blockChecks
 check-bytes-requires c κs = found-good (blockChecks (now (c .before .before .before .before .args .block))) _ (c .before .before .check-block .ensures) (c .enum-told .given .1) .0
@@ -35,9 +26,9 @@ pub check-kind-spec : {M : Type 1} → statement M
 check-kind-spec =
     tie.close
     (tie.spec
-    check-block-requires
-    enum-known-x
-    enum-told
+    (λ c κs. search needs)
+    (λ c. search needs)
+    (λ c. search needs)
     check-bytes-requires
     returns
     returns-2)

@@ -4,7 +4,7 @@ use borrow.Author.Needs.{needs}
 use borrow.Author.Tests.{not-true, not-false}
 use lib.ListN.{length}
 use denote.Ref.{now}
-use Rattle.piece.proofs.Decide.{yes, no, decide-by}
+use Rattle.whole.proofs.Decide.{yes, no, decide-by}
 use Rattle.block.specs.Reading.{PartsFit}
 use Rattle.block.proofs.Bytes.{block-length}
 use Rattle.block.proofs.PartLaws.{both-few, made, made-alike, made-sealed}
@@ -41,7 +41,13 @@ returns-4 : tie.Need-returns-4
 returns-4 c =
     let a = c .before .before .before .before .before .before .before .before .before .args in let h = c .before .before .holds in let s = c .is-sealed in let f = fits (c .before .before .before) in
     decide-by _ (s .result)
-    (λ e. record { fit = f; same = made (now (a .first)) (now (a .last)) (a .at) f (now (a .block)) (c .before .before .before .before .before .if1 .left) (yes _ (h .result) (h .ensures) (not-false _ (c .before .if3 .left))) (yes _ (s .result) (s .ensures) e) })
+    (λ e. record {
+      fit = f;
+      same =
+          made (now (a .first)) (now (a .last)) (a .at) f (now (a .block)) (c .before .before .before .before .before .if1 .left)
+          (yes _ (h .result) (h .ensures) (not-false _ (c .before .if3 .left)))
+          (yes _ (s .result) (s .ensures) e);
+    })
     (λ e p. no _ (s .result) (s .ensures) e (made-sealed (now (a .first)) (now (a .last)) (a .at) (p .fit) (now (a .block)) (p .same)))
 
 pub is-parts-spec : {M : Type 1} → statement M

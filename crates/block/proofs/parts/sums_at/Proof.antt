@@ -6,16 +6,16 @@ use native.Mathlib.Omega.{arith}
 use mir.Syntax.{w8}
 use mir.Val.{Fits}
 use lib.ListN.{length}
-use Rattle.block.specs.Layout.{byte}
+use Rattle.block.specs.Layout.{bodySize, byte}
 use Rattle.block.proofs.Bytes.{Upto, upto-none, upto-more, upto-all}
 use Rattle.block.proofs.parts.sums_at.Statement.{statement}
 use Rattle.block.proofs.parts.sums_at.Tie as tie
 
-weight-most : (i b : ℕ) → Fits w8 b → (510 - i) * b ≤ 130050
-weight-most i b h = let l : 510 - i ≤ 510 = omega arith in let k : b ≤ 255 = omega arith in mul-le-mul l k
+weight-most : (i b : ℕ) → Fits w8 b → (bodySize - i) * b ≤ 130050
+weight-most i b h = let l : bodySize - i ≤ bodySize = omega arith in let k : b ≤ 255 = omega arith in mul-le-mul l k
 
 abbrev Inv-loop : tie.InvT-loop
-Inv-loop bytes at plain₀ weighed₀ i₀ plain weighed i = Upto (λ j. byte bytes j) 255 (length bytes) i plain × Upto (λ j. (510 - (at + j)) * byte bytes j) 130050 (length bytes) i weighed
+Inv-loop bytes at plain₀ weighed₀ i₀ plain weighed i = Upto (λ j. byte bytes j) 255 (length bytes) i plain × Upto (λ j. (bodySize - (at + j)) * byte bytes j) 130050 (length bytes) i weighed
 
 abbrev μ-loop : tie.MeasureT-loop
 μ-loop bytes at plain₀ weighed₀ i₀ plain weighed i = length bytes - i

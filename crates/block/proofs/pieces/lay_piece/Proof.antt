@@ -7,7 +7,7 @@ use borrow.Author.Needs.{needs}
 use lib.IntN.{pos}
 use lib.ListN.{length, getD, set, take, length-set}
 use denote.Ref.{now}
-use Rattle.block.specs.Layout.{words}
+use Rattle.block.specs.Layout.{blockSize, pieceKind, words}
 use Rattle.block.specs.Reading.{Word}
 use Rattle.block.proofs.Mid.{mid, mid-length, mid-front, part-length, two-length, two-then}
 use Rattle.block.proofs.PieceLaws.{sized-most, good-sized, good-word, machine, bandNumbers, read-band, band-word}
@@ -15,29 +15,8 @@ use Rattle.block.proofs.Words.{words-length}
 use Rattle.block.proofs.pieces.lay_piece.Statement.{statement}
 use Rattle.block.proofs.pieces.lay_piece.Tie as tie
 
-mul-end : tie.Need-mul-end
-mul-end c = search needs
-
-add-end : tie.Need-add-end
-add-end c = search needs
-
-slice-write-block : tie.Need-slice-write-block
-slice-write-block c = search needs
-
 cast-block : tie.Need-cast-block
 cast-block c = let b = c .before .before in omega (arith, sized-most (now (b .args .corners)) (good-sized _ (b .pre .0)))
-
-slice-write-block-2 : tie.Need-slice-write-block-2
-slice-write-block-2 c = search needs
-
-slice-aggregate-lay : tie.Need-slice-aggregate-lay
-slice-aggregate-lay c = search needs
-
-sub-lay : tie.Need-sub-lay
-sub-lay c = search needs
-
-part-lay-start : tie.Need-part-lay-start
-part-lay-start c = search needs
 
 part-lay-end : tie.Need-part-lay-end
 part-lay-end c = simp length-set (omega (arith, c .before .before .before .pre))
@@ -53,29 +32,25 @@ same c =
 
 lay-requires : tie.Need-lay-requires
 lay-requires c κs =
-    let b = c .before .before .before .before in
-    (part-length (set (set (now (b .args .block)) 0 1) 1 (length (now (b .args .corners)) / 2)) 2 10 (simp length-set (omega (arith, b .pre))), subst (λ zs. (j : ℕ) → j < 5 → Word (getD zs j (pos 0))) (sym (same c)) (band-word (b .args .band) (now (b .args .corners)) (b .pre .0)))
+    let b = c .before .before .before .before in let l = now (b .args .corners) in (
+      part-length (set (set (now (b .args .block)) 0 pieceKind) 1 (length l / 2)) 2 10 (simp length-set (omega (arith, b .pre))),
+      subst (λ zs. (j : ℕ) → j < 5 → Word (getD zs j (pos 0))) (sym (same c)) (band-word (b .args .band) l (b .pre .0)),
+    )
 
 -- the bytes of the band
 laid : (c : tie.After-lay) → c .lay .last .1 .0 ≡ words (bandNumbers (c .before .before .before .before .before .args .band))
 laid c = c .lay .ensures ∙ ap words (same (c .before))
 
-sub-lay-2 : tie.Need-sub-lay-2
-sub-lay-2 c = search needs
-
-part-lay-start-2 : tie.Need-part-lay-start-2
-part-lay-start-2 c = search needs
-
 -- the block once the band is laid, and its length
 abbrev banded : tie.After-lay → List ℕ
 banded c =
     let a = c .before .before .before .before .before .args in
-    mid 2 10 (set (set (now (a .block)) 0 1) 1 (length (now (a .corners)) / 2)) (c .lay .last .1 .0)
+    mid 2 10 (set (set (now (a .block)) 0 pieceKind) 1 (length (now (a .corners)) / 2)) (c .lay .last .1 .0)
 
-long : (c : tie.After-lay) → length (banded c) ≡ 512
+long : (c : tie.After-lay) → length (banded c) ≡ blockSize
 long c =
     let b = c .before .before .before .before .before in
-    two-length (now (b .args .block)) (c .lay .last .1 .0) 1 (length (now (b .args .corners)) / 2) 10 (omega (arith, b .pre)) (ap length (laid c)) ∙ b .pre .1
+    two-length (now (b .args .block)) (c .lay .last .1 .0) pieceKind (length (now (b .args .corners)) / 2) 10 (omega (arith, b .pre)) (ap length (laid c)) ∙ b .pre .1
 
 few : (c : tie.After-lay) → length (now (c .before .before .before .before .before .args .corners)) ≤ 128
 few c = let b = c .before .before .before .before .before in sized-most (now (b .args .corners)) (good-sized _ (b .pre .0))
@@ -104,25 +79,26 @@ returns c =
     let n : 12 + 2 * m ≡ 12 + (12 + 2 * m - 12) = omega arith in let s = m / 2 in
     ap (λ k. take k (mid 12 (12 + 2 * m - 12) (banded d) (c .before .before .lay2 .last .1 .0))) n
     ∙ mid-front (banded d) (c .before .before .lay2 .last .1 .0) 12 (12 + 2 * m - 12) (omega (arith, long d, few d)) (cornered (c .before .before))
-    ∙ ap (λ (f : List ℕ). f ++ c .before .before .lay2 .last .1 .0) (two-then (now (b .args .block)) (d .lay .last .1 .0) 1 s 10 (omega (arith, b .pre)) (ap length (laid d)) ∙ ap (λ (f : List ℕ). 1 ∷ s ∷ f) (laid d))
-    ∙ ap (λ (f : List ℕ). (1 ∷ s ∷ words (bandNumbers (b .args .band))) ++ f) (c .before .before .lay2 .ensures)
+    ∙ ap (λ (f : List ℕ). f ++ c .before .before .lay2 .last .1 .0)
+    (two-then (now (b .args .block)) (d .lay .last .1 .0) pieceKind s 10 (omega (arith, b .pre)) (ap length (laid d)) ∙ ap (λ (f : List ℕ). pieceKind ∷ s ∷ f) (laid d))
+    ∙ ap (λ (f : List ℕ). (pieceKind ∷ s ∷ words (bandNumbers (b .args .band))) ++ f) (c .before .before .lay2 .ensures)
 
 pub lay-piece-spec : {M : Type 1} → statement M
 lay-piece-spec =
     tie.close
     (tie.spec
-    mul-end
-    add-end
-    slice-write-block
+    (λ c. search needs)
+    (λ c. search needs)
+    (λ c. search needs)
     cast-block
-    slice-write-block-2
-    slice-aggregate-lay
-    sub-lay
-    part-lay-start
+    (λ c. search needs)
+    (λ c. search needs)
+    (λ c. search needs)
+    (λ c. search needs)
     part-lay-end
     lay-requires
-    sub-lay-2
-    part-lay-start-2
+    (λ c. search needs)
+    (λ c. search needs)
     part-lay-end-2
     lay-requires-2
     same-length

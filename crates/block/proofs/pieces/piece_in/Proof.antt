@@ -36,36 +36,24 @@ array-share-prefix-corners c = omega (arith, count-most (now (c .before .before 
 slice-aggregate-check-piece : tie.Need-slice-aggregate-check-piece
 slice-aggregate-check-piece c = sym (length-take-le _ _ (array-share-prefix-corners (c .before)))
 
-check-piece-requires : tie.Need-check-piece-requires
-check-piece-requires c κs = search needs
-
-enum-known-x : tie.Need-enum-known-x
-enum-known-x c = search needs
-
-refused-requires : tie.Need-refused-requires
-refused-requires c κs = search needs
-
-enum-told : tie.Need-enum-told
-enum-told c = search needs
-
 returns : tie.Need-returns
 returns c =
-    let l = now (c .before .before .before .before .before .before .before .before .before .before .args .block) in let b = c .before .before .before .before .before .before .before .band-at .result in let a = c .before .before .before .before .before .before .corners-at .result in let p = c .before .before .before .before .before .before .before .before .before .before .pre in
-    let k = pieceOf b (take (2 * byte l 1) a) in
+    let d = c .before .before .before .before .before .before in let e = d .before in let g = e .before .before in let s = g .before in let l = now (s .args .block) in
+    let b = e .band-at .result in let a = d .corners-at .result in let k = pieceOf b (take (2 * byte l 1) a) in
     says-refused l (c .refused .result) _ (c .refused .ensures .0)
-    (inside-fault l k _ p
-    (piece-in l b a (c .before .before .before .before .before .before .before .before .before .shared-slice-known .given) p (c .before .before .before .before .before .before .before .band-at .ensures) (c .before .before .before .before .before .before .corners-at .ensures))
+    (inside-fault l k _ (s .pre)
+    (piece-in l b a (g .shared-slice-known .given) (s .pre) (e .band-at .ensures) (d .corners-at .ensures))
     (found-bad (pieceChecks k) _ _ (c .before .before .before .before .check-piece .ensures) (c .before .before .x .given .1))) (c .refused .ensures .1)
 
 returns-2 : tie.Need-returns-2
 returns-2 c =
-    let l = now (c .before .before .before .before .before .before .before .before .args .block) in let b = c .before .before .before .before .before .band-at .result in let a = c .before .before .before .before .corners-at .result in let p = c .before .before .before .before .before .before .before .before .pre in
-    let k = pieceOf b (take (2 * byte l 1) a) in let g = c .before .before .before .before .before .before .before .shared-slice-known .given in
+    let d = c .before .before .before .before in let e = d .before in let g = e .before .before in let s = g .before in let l = now (s .args .block) in
+    let b = e .band-at .result in let a = d .corners-at .result in let k = pieceOf b (take (2 * byte l 1) a) in
     record {
       piece = k;
       good = found-good (pieceChecks k) _ (c .before .before .check-piece .ensures) (c .enum-told .given .1);
-      same = piece-in l b a g p (c .before .before .before .before .before .band-at .ensures) (c .before .before .before .before .corners-at .ensures) .same;
-      holds = piece-holds l b a g p (c .before .before .before .before .before .band-at .ensures) (c .before .before .before .before .corners-at .ensures) Good;
+      same = piece-in l b a (g .shared-slice-known .given) (s .pre) (e .band-at .ensures) (d .corners-at .ensures) .same;
+      holds = piece-holds l b a (g .shared-slice-known .given) (s .pre) (e .band-at .ensures) (d .corners-at .ensures) Good;
     }
 
 pub piece-in-spec : {M : Type 1} → statement M
@@ -79,9 +67,9 @@ piece-in-spec =
     corners-at-requires
     array-share-prefix-corners
     slice-aggregate-check-piece
-    check-piece-requires
-    enum-known-x
-    refused-requires
-    enum-told
+    (λ c κs. search needs)
+    (λ c. search needs)
+    (λ c κs. search needs)
+    (λ c. search needs)
     returns
     returns-2)

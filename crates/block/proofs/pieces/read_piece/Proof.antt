@@ -8,18 +8,6 @@ use borrow.Author.Needs.{needs}
 use Rattle.block.proofs.pieces.read_piece.Statement.{statement}
 use Rattle.block.proofs.pieces.read_piece.Tie as tie
 
-check-kind-requires : tie.Need-check-kind-requires
-check-kind-requires c κs = search needs
-
-enum-known-x : tie.Need-enum-known-x
-enum-known-x c = search needs
-
-refused-requires : tie.Need-refused-requires
-refused-requires c κs = search needs
-
-enum-told : tie.Need-enum-told
-enum-told c = search needs
-
 piece-in-requires : tie.Need-piece-in-requires
 piece-in-requires c κs = let l = now (c .before .before .before .before .args .block) in found-good (blockChecks l ++ pieceBytes l) _ (c .before .before .check-kind .ensures) (c .enum-told .given .1)
 
@@ -30,17 +18,14 @@ returns c =
     (bytes-fault l _
     (found-bad (blockChecks l ++ pieceBytes l) _ _ (c .before .before .before .before .check-kind .ensures) (c .before .before .x .given .1))) (c .refused .ensures .1)
 
-returns-2 : tie.Need-returns-2
-returns-2 c = search needs
-
 pub read-piece-spec : {M : Type 1} → statement M
 read-piece-spec =
     tie.close
     (tie.spec
-    check-kind-requires
-    enum-known-x
-    refused-requires
-    enum-told
+    (λ c κs. search needs)
+    (λ c. search needs)
+    (λ c κs. search needs)
+    (λ c. search needs)
     piece-in-requires
     returns
-    returns-2)
+    (λ c. search needs))

@@ -17,23 +17,10 @@ returns : tie.Need-returns
 unfolding pieceAsked
 returns c = (inl (c .if1 .taken, refl), refl)
 
-check-piece-requires : tie.Need-check-piece-requires
-check-piece-requires c κs = search needs
-
-enum-known-x : tie.Need-enum-known-x
-enum-known-x c = search needs
-
-enum-told : tie.Need-enum-told
-enum-told c = search needs
-
 lay-piece-requires : tie.Need-lay-piece-requires
-lay-piece-requires c κs = (let a = c .before .before .before .before .before .before .args in found-good (pieceChecks (pieceOf (a .band) (now (a .corners)))) _ (c .before .before .before .check-piece .ensures) (c .before .enum-told .given .1), c .before .before .before .before .if1 .left)
-
-mul-finish : tie.Need-mul-finish
-mul-finish c = search needs
-
-add-finish : tie.Need-add-finish
-add-finish c = search needs
+lay-piece-requires c κs =
+    let d = c .before .before .before in let e = d .before in let a = e .before .before .args in
+    (found-good (pieceChecks (pieceOf (a .band) (now (a .corners)))) _ (d .check-piece .ensures) (c .before .enum-told .given .1), e .if1 .left)
 
 finish-requires : tie.Need-finish-requires
 finish-requires c κs =
@@ -43,30 +30,32 @@ finish-requires c κs =
 
 returns-2 : tie.Need-returns-2
 unfolding pieceAsked
-returns-2 c = let a = c .before .before .before .before .before .before .args in (inr (c .before .before .before .before .if1 .left, found-bad (pieceChecks (pieceOf (a .band) (now (a .corners)))) _ _ (c .before .before .before .check-piece .ensures) (c .before .x .given .1)), refl)
-
-same-length : tie.Need-same-length
-same-length c = search needs
+returns-2 c =
+    let d = c .before .before .before in let e = d .before in let a = e .before .before .args in
+    (inr (e .if1 .left, found-bad (pieceChecks (pieceOf (a .band) (now (a .corners)))) _ _ (d .check-piece .ensures) (c .before .x .given .1)), refl)
 
 returns-3 : tie.Need-returns-3
 unfolding pieceAsked
 returns-3 c =
-    let a = c .before .before .before .before .before .before .before .before .before .before .before .before .before .args in let k = pieceOf (a .band) (now (a .corners)) in
-    let p = found-good (pieceChecks k) _ (c .before .before .before .before .before .before .before .before .before .before .check-piece .ensures) (c .before .before .before .before .before .before .before .before .enum-told .given .1) in
-    ((c .before .before .before .before .before .before .before .before .before .before .before .if1 .left, p), c .before .before .finish .ensures ∙ ap blockOf (c .before .before .before .before .before .before .lay-piece .ensures) ∙ sym (piece-block k (sized-most (k .corners) (good-sized k p))))
+    let l = c .before .before .before .before .before .before in let g = l .before .before in let d = g .before .before in let e = d .before in
+    let a = e .before .before .args in let k = pieceOf (a .band) (now (a .corners)) in
+    let p = found-good (pieceChecks k) _ (d .check-piece .ensures) (g .enum-told .given .1) in (
+      (e .if1 .left, p),
+      c .before .before .finish .ensures ∙ ap blockOf (l .lay-piece .ensures) ∙ sym (piece-block k (sized-most (k .corners) (good-sized k p))),
+    )
 
 pub write-piece-spec : {M : Type 1} → statement M
 write-piece-spec =
     tie.close
     (tie.spec
     returns
-    check-piece-requires
-    enum-known-x
-    enum-told
+    (λ c κs. search needs)
+    (λ c. search needs)
+    (λ c. search needs)
     lay-piece-requires
-    mul-finish
-    add-finish
+    (λ c. search needs)
+    (λ c. search needs)
     finish-requires
     returns-2
-    same-length
+    (λ c. search needs)
     returns-3)

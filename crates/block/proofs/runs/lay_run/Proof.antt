@@ -8,7 +8,7 @@ use lib.IntN.{pos}
 use lib.ListN.{length, getD, set, length-set}
 use denote.Ref.{now}
 use Rattle.piece.specs.Numbers.{runOf}
-use Rattle.block.specs.Layout.{words, runNumbers, runBody}
+use Rattle.block.specs.Layout.{runKind, words, runNumbers, runBody}
 use Rattle.block.specs.Reading.{Word}
 use Rattle.block.proofs.Mid.{part-length, two-length, two-then}
 use Rattle.block.proofs.RunLaws.{good-ticks, good-word, machine, read-run}
@@ -17,21 +17,6 @@ use Rattle.block.proofs.runs.lay_run.Tie as tie
 
 cast-t4 : tie.Need-cast-t4
 cast-t4 c = let h = good-ticks _ (c .before .before .pre .0) in record { sfits = omega arith }
-
-slice-write-block : tie.Need-slice-write-block
-slice-write-block c = search needs
-
-slice-write-block-2 : tie.Need-slice-write-block-2
-slice-write-block-2 c = search needs
-
-slice-aggregate-lay : tie.Need-slice-aggregate-lay
-slice-aggregate-lay c = search needs
-
-sub-lay : tie.Need-sub-lay
-sub-lay c = search needs
-
-part-lay-start : tie.Need-part-lay-start
-part-lay-start c = search needs
 
 part-lay-end : tie.Need-part-lay-end
 part-lay-end c = simp length-set (omega (arith, c .before .before .before .before .pre))
@@ -50,32 +35,36 @@ same c =
 
 lay-requires : tie.Need-lay-requires
 lay-requires c κs =
-    let b = c .before .before .before .before .before in
-    (part-length (set (set (now (b .args .block)) 0 2) 1 0) 2 14 (simp length-set (omega (arith, b .pre))), subst (λ zs. (j : ℕ) → j < 7 → Word (getD zs j (pos 0))) (sym (same c)) (λ j h. good-word (runOf (b .args .run)) (b .pre .0) j))
+    let b = c .before .before .before .before .before in (
+      part-length (set (set (now (b .args .block)) 0 runKind) 1 0) 2 14 (simp length-set (omega (arith, b .pre))),
+      subst (λ zs. (j : ℕ) → j < 7 → Word (getD zs j (pos 0))) (sym (same c)) (λ j h. good-word (runOf (b .args .run)) (b .pre .0) j),
+    )
 
 -- the bytes that were laid
 laid : (c : tie.After-lay) → c .lay .last .1 .0 ≡ words (runNumbers (runOf (c .before .before .before .before .before .before .args .run)))
 laid c = c .lay .ensures ∙ ap words (same (c .before))
 
 same-length : tie.Need-same-length
-same-length c = let b = c .before .before .before .before .before .before .before .before in two-length (now (b .args .block)) (c .before .before .lay .last .1 .0) 2 0 14 (omega (arith, b .pre)) (ap length (laid (c .before .before)))
+same-length c =
+    let d = c .before .before in let b = d .before .before .before .before .before .before in
+    two-length (now (b .args .block)) (d .lay .last .1 .0) runKind 0 14 (omega (arith, b .pre)) (ap length (laid d))
 
 returns : tie.Need-returns
 unfolding runBody
 returns c =
-    let b = c .before .before .before .before .before .before .before .before in
-    two-then (now (b .args .block)) (c .before .before .lay .last .1 .0) 2 0 14 (omega (arith, b .pre)) (ap length (laid (c .before .before))) ∙ ap (λ (l : List ℕ). 2 ∷ 0 ∷ l) (laid (c .before .before))
+    let d = c .before .before in let b = d .before .before .before .before .before .before in
+    two-then (now (b .args .block)) (d .lay .last .1 .0) runKind 0 14 (omega (arith, b .pre)) (ap length (laid d)) ∙ ap (λ (l : List ℕ). runKind ∷ 0 ∷ l) (laid d)
 
 pub lay-run-spec : {M : Type 1} → statement M
 lay-run-spec =
     tie.close
     (tie.spec
     cast-t4
-    slice-write-block
-    slice-write-block-2
-    slice-aggregate-lay
-    sub-lay
-    part-lay-start
+    (λ c. search needs)
+    (λ c. search needs)
+    (λ c. search needs)
+    (λ c. search needs)
+    (λ c. search needs)
     part-lay-end
     lay-requires
     same-length

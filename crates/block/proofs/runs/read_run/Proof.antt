@@ -12,27 +12,11 @@ use borrow.Author.Needs.{needs}
 use Rattle.block.proofs.runs.read_run.Statement.{statement}
 use Rattle.block.proofs.runs.read_run.Tie as tie
 
-check-kind-requires : tie.Need-check-kind-requires
-check-kind-requires c κs = search needs
-
-enum-known-x : tie.Need-enum-known-x
-enum-known-x c = search needs
-
-enum-told : tie.Need-enum-told
-enum-told c = search needs
-
 run-at-requires : tie.Need-run-at-requires
 unfolding blockChecks
-run-at-requires c κs = let l = now (c .before .before .before .before .args .block) in passes-left (blockChecks l) (runBytes l) (found-good (blockChecks l ++ runBytes l) _ (c .before .before .check-kind .ensures) (c .enum-told .given .1)) .0
-
-check-run-requires : tie.Need-check-run-requires
-check-run-requires c κs = search needs
-
-enum-known-x-2 : tie.Need-enum-known-x-2
-enum-known-x-2 c = search needs
-
-enum-told-2 : tie.Need-enum-told-2
-enum-told-2 c = search needs
+run-at-requires c κs =
+    let d = c .before .before in let l = now (d .before .before .args .block) in
+    passes-left (blockChecks l) (runBytes l) (found-good (blockChecks l ++ runBytes l) _ (d .check-kind .ensures) (c .enum-told .given .1)) .0
 
 returns : tie.Need-returns
 unfolding runBlockChecks
@@ -44,10 +28,14 @@ returns c =
 returns-2 : tie.Need-returns-2
 unfolding runBlockChecks
 returns-2 c =
-    let l = now (c .before .before .before .before .before .before .before .before .before .args .block) in let r = c .before .before .before .before .run-at .result in
-    let p = found-good (blockChecks l ++ runBytes l) _ (c .before .before .before .before .before .before .before .check-kind .ensures) (c .before .before .before .before .before .enum-told .given .1) in
+    let d = c .before .before .before .before in let e = d .before in let f = e .before .before in let g = f .before in let l = now (g .before .args .block) in let r = d .run-at .result in
+    let p = found-good (blockChecks l ++ runBytes l) _ (f .check-kind .ensures) (e .enum-told .given .1) in
     fault-right (blockChecks l ++ runBytes l) (inside (RunIn l) runChecks ∷ []) _ p
-    (inl (runOf r, run-in l r (c .before .before .before .before .run-at .ensures) (c .before .before .before .before .before .before .before .before .shared-slice-known .given) p, found-bad (runChecks (runOf r)) _ _ (c .before .before .before .check-run .ensures) (c .before .x2 .given .1)))
+    (inl (
+      runOf r,
+      run-in l r (d .run-at .ensures) (g .shared-slice-known .given) p,
+      found-bad (runChecks (runOf r)) _ _ (c .before .before .before .check-run .ensures) (c .before .x2 .given .1),
+    ))
 
 returns-3 : tie.Need-returns-3
 returns-3 c =
@@ -62,13 +50,13 @@ pub read-run-spec : {M : Type 1} → statement M
 read-run-spec =
     tie.close
     (tie.spec
-    check-kind-requires
-    enum-known-x
-    enum-told
+    (λ c κs. search needs)
+    (λ c. search needs)
+    (λ c. search needs)
     run-at-requires
-    check-run-requires
-    enum-known-x-2
-    enum-told-2
+    (λ c κs. search needs)
+    (λ c. search needs)
+    (λ c. search needs)
     returns
     returns-2
     returns-3)

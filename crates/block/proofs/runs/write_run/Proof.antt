@@ -14,34 +14,23 @@ returns : tie.Need-returns
 unfolding runAsked
 returns c = (inl (c .if1 .taken, refl), refl)
 
-check-run-requires : tie.Need-check-run-requires
-check-run-requires c κs = search needs
-
-enum-known-x : tie.Need-enum-known-x
-enum-known-x c = search needs
-
-enum-told : tie.Need-enum-told
-enum-told c = search needs
-
 lay-run-requires : tie.Need-lay-run-requires
-lay-run-requires c κs = (found-good (runChecks (runOf (c .before .before .before .before .before .before .args .run))) _ (c .before .before .before .check-run .ensures) (c .before .enum-told .given .1), c .before .before .before .before .if1 .left)
-
-finish-requires : tie.Need-finish-requires
-finish-requires c κs = search needs
+lay-run-requires c κs =
+    let d = c .before .before .before in let e = d .before in
+    (found-good (runChecks (runOf (e .before .before .args .run))) _ (d .check-run .ensures) (c .before .enum-told .given .1), e .if1 .left)
 
 returns-2 : tie.Need-returns-2
 unfolding runAsked
-returns-2 c = (inr (c .before .before .before .before .if1 .left, found-bad (runChecks (runOf (c .before .before .before .before .before .before .args .run))) _ _ (c .before .before .before .check-run .ensures) (c .before .x .given .1)), refl)
-
-same-length : tie.Need-same-length
-same-length c = search needs
+returns-2 c =
+    let d = c .before .before .before in let e = d .before in
+    (inr (e .if1 .left, found-bad (runChecks (runOf (e .before .before .args .run))) _ _ (d .check-run .ensures) (c .before .x .given .1)), refl)
 
 returns-3 : tie.Need-returns-3
 unfolding runAsked runBlock
 returns-3 c =
-    let r = runOf (c .before .before .before .before .before .before .before .before .before .before .before .before .before .args .run) in (
-      (c .before .before .before .before .before .before .before .before .before .before .before .if1 .left, found-good (runChecks r) _ (c .before .before .before .before .before .before .before .before .before .before .check-run .ensures) (c .before .before .before .before .before .before .before .before .enum-told .given .1)),
-      c .before .before .finish .ensures ∙ ap blockOf (c .before .before .before .before .before .before .lay-run .ensures),
+    let l = c .before .before .before .before .before .before in let g = l .before .before in let d = g .before .before in let e = d .before in let r = runOf (e .before .before .args .run) in (
+      (e .if1 .left, found-good (runChecks r) _ (d .check-run .ensures) (g .enum-told .given .1)),
+      c .before .before .finish .ensures ∙ ap blockOf (l .lay-run .ensures),
     )
 
 pub write-run-spec : {M : Type 1} → statement M
@@ -49,11 +38,11 @@ write-run-spec =
     tie.close
     (tie.spec
     returns
-    check-run-requires
-    enum-known-x
-    enum-told
+    (λ c κs. search needs)
+    (λ c. search needs)
+    (λ c. search needs)
     lay-run-requires
-    finish-requires
+    (λ c κs. search needs)
     returns-2
-    same-length
+    (λ c. search needs)
     returns-3)

@@ -8,7 +8,7 @@ use lib.Dec.{eqb}
 use lib.ListN.{length}
 use lib.Seq.{ext-getD}
 use denote.Ref.{now}
-use Rattle.piece.proofs.Decide.{yes, no, decide-by}
+use Rattle.whole.proofs.Decide.{yes, no, decide-by}
 use Rattle.block.specs.Layout.{byte}
 use Rattle.block.proofs.Flags.{Flagged, flag-start, flag-bad, flag-good, flag-end}
 use Rattle.block.proofs.scan.alike.Statement.{statement}
@@ -41,13 +41,18 @@ loop-less c = omega arith
 loop-again : tie.Need-loop-again Inv-loop μ-loop
 loop-again c =
     let v = c .before .before .before .before .loop in
-    ⊎-elim (λ w. flag-bad _ 0 _ (v .i) (v .other) (c .if1 .other) (v .inv) (omega arith) (w .0 .taken) (w .1)) (λ w. flag-good _ 0 _ (v .i) (v .other) (c .if1 .other) (v .inv) (omega arith) (w .0 .left) (w .1)) (c .if1 .came)
+    ⊎-elim
+    (λ w. flag-bad _ 0 _ (v .i) (v .other) (c .if1 .other) (v .inv) (omega arith) (w .0 .taken) (w .1))
+    (λ w. flag-good _ 0 _ (v .i) (v .other) (c .if1 .other) (v .inv) (omega arith) (w .0 .left) (w .1))
+    (c .if1 .came)
 
 returns : tie.Need-returns Inv-loop μ-loop
 returns c =
     let v = c .before .loop in let a = now (c .before .before .args .a) in let b = now (c .before .before .args .b) in
     let d = flag-end (Same a b) 0 (length a) (v .i) (v .other) (v .inv) (omega arith) in
-    decide-by _ (eqb (v .other) 0) (λ e. ext-getD 0 a b (c .before .before .pre) (λ i h. yes _ (eqb (v .other) 0) d e i (omega arith) h)) (λ e g. no _ (eqb (v .other) 0) d e (λ i h k. ap (λ (l : List ℕ). byte l i) g))
+    decide-by _ (eqb (v .other) 0)
+    (λ e. ext-getD 0 a b (c .before .before .pre) (λ i h. yes _ (eqb (v .other) 0) d e i (omega arith) h))
+    (λ e g. no _ (eqb (v .other) 0) d e (λ i h k. ap (λ (l : List ℕ). byte l i) g))
 
 pub alike-spec : {M : Type 1} → statement M
 alike-spec =

@@ -6,7 +6,9 @@ use native.Mathlib.Omega.{arith}
 use borrow.Author.Needs.{needs}
 use denote.Ref.{now}
 use Rattle.whole.proofs.Order.{ℕ-or}
-use Rattle.piece.proofs.Decide.{yes, no, none-found, first-found}
+use Rattle.rules.proofs.Checks.{first-found}
+use Rattle.whole.proofs.Decide.{yes, no, none-found}
+use Rattle.block.specs.Layout.{bodySize}
 use Rattle.block.proofs.Face.{clean-from}
 use Rattle.block.proofs.scan.check_unnamed.Statement.{statement}
 use Rattle.block.proofs.scan.check_unnamed.Tie as tie
@@ -26,7 +28,7 @@ add-t5 c = search needs
 -- the bytes are not all zero, so the count ends before them
 returns-2 : tie.Need-returns-2
 returns-2 c =
-    let a = c .before .before .before .before .args in let n = 510 - a .from in let f = c .zeros-at .ensures .0 in let r = c .zeros-at .result in
+    let a = c .before .before .before .before .args in let n = bodySize - a .from in let f = c .zeros-at .ensures .0 in let r = c .zeros-at .result in
     let h = ⊎-elim
     (λ (h : n ≤ r). absurd (no _ (c .before .before .clean .result) (c .before .before .clean .ensures) (c .before .if1 .left) (clean-from (now (a .block)) (a .from) (none-found f h))))
     (λ (h : r < n). h)

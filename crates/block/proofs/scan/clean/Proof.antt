@@ -33,7 +33,10 @@ loop-less c = omega arith
 loop-again : tie.Need-loop-again Inv-loop μ-loop
 loop-again c =
     let v = c .before .before .before .loop in
-    ⊎-elim (λ w. flag-bad _ _ _ (v .i) (v .other) (c .if1 .other) (v .inv) (omega arith) (w .0 .taken) (w .1)) (λ w. flag-good _ _ _ (v .i) (v .other) (c .if1 .other) (v .inv) (omega arith) (w .0 .left) (w .1)) (c .if1 .came)
+    ⊎-elim
+    (λ w. flag-bad _ _ _ (v .i) (v .other) (c .if1 .other) (v .inv) (omega arith) (w .0 .taken) (w .1))
+    (λ w. flag-good _ _ _ (v .i) (v .other) (c .if1 .other) (v .inv) (omega arith) (w .0 .left) (w .1))
+    (c .if1 .came)
 
 returns : tie.Need-returns Inv-loop μ-loop
 returns c = flag-end _ _ _ _ _ (c .before .loop .inv) (omega arith)

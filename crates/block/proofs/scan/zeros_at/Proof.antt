@@ -2,37 +2,23 @@
 use Prim.Native.Nat.{_-_, _≤_}
 use native.Mathlib.Omega.{arith}
 use borrow.Author.Needs.{needs}
-use Rattle.piece.proofs.Decide.{Below, none-yet, one-more, stop, seeks-end}
+use Rattle.whole.proofs.Decide.{Below, none-yet, one-more, stop, seeks-end}
+use Rattle.block.specs.Layout.{bodySize}
 use Rattle.block.specs.Reading.{NotZero}
 use Rattle.block.proofs.scan.zeros_at.Statement.{statement}
 use Rattle.block.proofs.scan.zeros_at.Tie as tie
 
 abbrev Inv-loop : tie.InvT-loop
-Inv-loop block from j₀ j = (j ≤ 510 - from) × Below (NotZero block from) j
+Inv-loop block from j₀ j = (j ≤ bodySize - from) × Below (NotZero block from) j
 
 abbrev μ-loop : tie.MeasureT-loop
-μ-loop block from j₀ j = 510 - from - j
+μ-loop block from j₀ j = bodySize - from - j
 
 loop-holds : tie.Need-loop-holds Inv-loop μ-loop
 loop-holds c = (omega arith, none-yet _)
 
-sub-loop : tie.Need-sub-loop Inv-loop μ-loop
-sub-loop c = search needs
-
-add-if1 : tie.Need-add-if1 Inv-loop μ-loop
-add-if1 c = search needs
-
-shared-slice-read-if1 : tie.Need-shared-slice-read-if1 Inv-loop μ-loop
-shared-slice-read-if1 c = search needs
-
 returns : tie.Need-returns Inv-loop μ-loop
 returns c = let v = c .before .before .before .loop in (stop _ _ _ (v .inv .1) (c .if1 .taken), v .inv .0)
-
-add-j : tie.Need-add-j Inv-loop μ-loop
-add-j c = search needs
-
-loop-less : tie.Need-loop-less Inv-loop μ-loop
-loop-less c = search needs
 
 loop-again : tie.Need-loop-again Inv-loop μ-loop
 loop-again c = let v = c .before .before .before .loop in (omega arith, one-more _ _ (v .inv .1) (λ f. f (c .if1 .left)))
@@ -47,11 +33,11 @@ zeros-at-spec =
     Inv-loop
     μ-loop
     loop-holds
-    sub-loop
-    add-if1
-    shared-slice-read-if1
+    (λ c. search needs)
+    (λ c. search needs)
+    (λ c. search needs)
     returns
-    add-j
-    loop-less
+    (λ c. search needs)
+    (λ c. search needs)
     loop-again
     returns-2)

@@ -6,23 +6,11 @@ use Rattle.block.proofs.Bytes.{plain-below, weighed-below}
 use Rattle.block.proofs.sums.seal.Statement.{statement}
 use Rattle.block.proofs.sums.seal.Tie as tie
 
-sums-of-requires : tie.Need-sums-of-requires
-sums-of-requires c κs = search needs
-
 cast-block : tie.Need-cast-block
 cast-block c = omega (arith, c .before .sums-of .ensures .0, plain-below (now (c .before .before .before .before .args .block)))
 
-slice-write-block : tie.Need-slice-write-block
-slice-write-block c = search needs
-
 cast-block-2 : tie.Need-cast-block-2
 cast-block-2 c = omega (arith, c .before .before .sums-of .ensures .1, weighed-below (now (c .before .before .before .before .before .args .block)))
-
-slice-write-block-2 : tie.Need-slice-write-block-2
-slice-write-block-2 c = search needs
-
-same-length : tie.Need-same-length
-same-length c = search needs
 
 returns : tie.Need-returns
 returns c = rw (c .before .before .sums-of .ensures .0, c .before .before .sums-of .ensures .1)
@@ -31,10 +19,10 @@ pub seal-spec : {M : Type 1} → statement M
 seal-spec =
     tie.close
     (tie.spec
-    sums-of-requires
+    (λ c κs. search needs)
     cast-block
-    slice-write-block
+    (λ c. search needs)
     cast-block-2
-    slice-write-block-2
-    same-length
+    (λ c. search needs)
+    (λ c. search needs)
     returns)

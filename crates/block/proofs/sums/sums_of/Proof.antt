@@ -7,7 +7,7 @@ use native.Mathlib.Nat.{mul-le-mul, add-mul, mul-add}
 use native.Mathlib.Omega.{arith}
 use mir.Syntax.{w8}
 use mir.Val.{Fits}
-use Rattle.block.specs.Layout.{byte, sum, plainSum, weighedSum}
+use Rattle.block.specs.Layout.{bodySize, byte, sum, plainSum, weighedSum}
 use Rattle.block.proofs.Bytes.{sum-split, Upto, upto-none, upto-more, upto-all}
 use Rattle.block.proofs.sums.sums_of.Statement.{statement}
 use Rattle.block.proofs.sums.sums_of.Tie as tie
@@ -25,12 +25,13 @@ paired l zero = refl
 paired l (suc n) = omega (arith, paired l n)
 
 -- byte j weighs 255 more than byte 255 + j
-weighs : (l : List ℕ) (n : ℕ) → n ≤ 255 → sum (λ j. (510 - j) * byte l j) n + sum (λ j. (510 - (255 + j)) * byte l (255 + j)) n ≡ sum (λ j. (255 - j) * both l j) n + 255 * sum (λ j. byte l j) n
+weighs : (l : List ℕ) (n : ℕ) → n ≤ 255
+    → sum (λ j. (bodySize - j) * byte l j) n + sum (λ j. (bodySize - (255 + j)) * byte l (255 + j)) n ≡ sum (λ j. (255 - j) * both l j) n + 255 * sum (λ j. byte l j) n
 unfolding sum
 weighs l zero h = refl
 weighs l (suc n) h =
-    let a : 510 - n ≡ 255 + (255 - n) = omega arith in
-    let b : 510 - (255 + n) ≡ 255 - n = omega arith in
+    let a : bodySize - n ≡ 255 + (255 - n) = omega arith in
+    let b : bodySize - (255 + n) ≡ 255 - n = omega arith in
     let p = ap (λ m. m * byte l n) a ∙ add-mul 255 (255 - n) (byte l n) in
     let q = ap (λ m. m * byte l (255 + n)) b in
     let r = mul-add (255 - n) (byte l n) (byte l (255 + n)) in
@@ -39,7 +40,7 @@ weighs l (suc n) h =
 ended : (l : List ℕ) (plain weighed : ℕ) → plain ≡ sum (λ j. both l j) 255 → weighed ≡ sum (λ j. (255 - j) * both l j) 255 → (plain % 255 ≡ plainSum l) × (weighed % 255 ≡ weighedSum l)
 unfolding plainSum weighedSum
 ended l plain weighed p w =
-    (ap (λ n. n % 255) (p ∙ paired l 255 ∙ sym (sum-split (λ j. byte l j) 255 255)), omega (arith, w, weighs l 255 (omega arith), sum-split (λ j. (510 - j) * byte l j) 255 255))
+    (ap (λ n. n % 255) (p ∙ paired l 255 ∙ sym (sum-split (λ j. byte l j) 255 255)), omega (arith, w, weighs l 255 (omega arith), sum-split (λ j. (bodySize - j) * byte l j) 255 255))
 
 abbrev Inv-loop : tie.InvT-loop
 Inv-loop block plain₀ weighed₀ i₀ plain weighed i = Upto (λ j. both block j) 510 255 i plain × Upto (λ j. (255 - j) * both block j) 130050 255 i weighed
@@ -95,7 +96,8 @@ loop-less c = omega arith
 
 loop-again : tie.Need-loop-again Inv-loop μ-loop
 loop-again c =
-    let l = c .before .before .before .before .args .block .now in let v = c .before .before .before .loop in let a = c .shared-slice-known2 .given (v .i) in let b = c .shared-slice-known2 .given (255 + v .i) in
+    let l = c .before .before .before .before .args .block .now in let v = c .before .before .before .loop in
+    let a = c .shared-slice-known2 .given (v .i) in let b = c .shared-slice-known2 .given (255 + v .i) in
     (upto-more _ _ _ _ _ (omega arith) (omega (arith, a, b)) (v .inv .0), upto-more _ _ _ _ _ (omega arith) (weight-most (v .i) (byte l (v .i)) (byte l (255 + v .i)) a b) (v .inv .1))
 
 returns : tie.Need-returns Inv-loop μ-loop

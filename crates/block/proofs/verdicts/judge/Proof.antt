@@ -14,7 +14,7 @@ use Rattle.block.proofs.verdicts.judge.Statement.{statement}
 use Rattle.block.proofs.verdicts.judge.Tie as tie
 
 shared-slice-read-n : tie.Need-shared-slice-read-n
-shared-slice-read-n c = omega (arith, block-long (now (c .before .before .args .block)) (c .before .before .pre .1))
+shared-slice-read-n c = omega (arith, block-long (now (c .before .before .args .block)) (c .before .before .pre))
 
 cast-n : tie.Need-cast-n
 cast-n c = omega (arith, c .shared-slice-known2 .given 1)
@@ -23,27 +23,25 @@ mul-n : tie.Need-mul-n
 mul-n c = omega (arith, c .shared-slice-known2 .given 1)
 
 band-at-requires : tie.Need-band-at-requires
-band-at-requires c κs = block-long (now (c .before .before .args .block)) (c .before .before .pre .1)
+band-at-requires c κs = block-long (now (c .before .before .args .block)) (c .before .before .pre)
 
 corners-at-requires : tie.Need-corners-at-requires
 corners-at-requires c κs =
     let s = c .before .before .before in let l = now (s .args .block) in
-    (omega (arith, count-most l (s .pre .1)), block-long l (s .pre .1))
+    (omega (arith, count-most l (s .pre)), block-long l (s .pre))
 
 array-share-prefix-corners : tie.Need-array-share-prefix-corners
-array-share-prefix-corners c = let s = c .before .before .before .before in omega (arith, count-most (now (s .args .block)) (s .pre .1), c .corners-at .ensures .all)
+array-share-prefix-corners c = let s = c .before .before .before .before in omega (arith, count-most (now (s .args .block)) (s .pre), c .corners-at .ensures .all)
 
 slice-aggregate-verdict : tie.Need-slice-aggregate-verdict
 slice-aggregate-verdict c = sym (length-take-le _ _ (array-share-prefix-corners (c .before)))
-
-verdict-requires : tie.Need-verdict-requires
-verdict-requires c κs = search needs
 
 returns : tie.Need-returns
 returns c =
     let d = c .before .before in let e = d .before in let g = e .before .before in let s = g .before in
     let l = now (s .args .block) in let b = e .band-at .result in let a = d .corners-at .result in
-    block-says (runOf (s .args .run)) l (s .pre .0) (s .pre .1) (pieceOf b (take (2 * byte l 1) a)) (piece-in l b a (g .shared-slice-known .given) (s .pre .1) (e .band-at .ensures) (d .corners-at .ensures)) (c .verdict .result)
+    block-says (runOf (s .args .run)) l (s .pre) (pieceOf b (take (2 * byte l 1) a))
+    (piece-in l b a (g .shared-slice-known .given) (s .pre) (e .band-at .ensures) (d .corners-at .ensures)) (c .verdict .result)
     (c .verdict .ensures)
 
 pub judge-spec : {M : Type 1} → statement M
@@ -57,5 +55,5 @@ judge-spec =
     corners-at-requires
     array-share-prefix-corners
     slice-aggregate-verdict
-    verdict-requires
+    (λ c κs. search needs)
     returns)

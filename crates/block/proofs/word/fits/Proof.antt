@@ -1,7 +1,7 @@
 -- `block::word::fits` decides. Assumes nothing.
 use lib.IntN.{pos, negsuc}
 use mir.Facts.{toZ-ofZ}
-use Rattle.piece.proofs.Decide.{between-yes, between-no}
+use Rattle.rules.proofs.Reach.{between-yes, between-no}
 use Rattle.block.proofs.word.fits.Statement.{statement}
 use Rattle.block.proofs.word.fits.Tie as tie
 

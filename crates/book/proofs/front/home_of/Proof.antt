@@ -4,14 +4,15 @@ use Prim.Native.Nat.{_+_, _-_, _%_}
 use native.Mathlib.Omega.{arith}
 use Rattle.block.specs.Layout.{byte}
 use Rattle.block.proofs.Bytes.{Upto, upto-none, upto-more, upto-all}
+use Rattle.book.specs.Entry.{keyLength}
 use Rattle.book.proofs.front.home_of.Statement.{statement}
 use Rattle.book.proofs.front.home_of.Tie as tie
 
 abbrev Inv-loop : tie.InvT-loop
-Inv-loop front slots total₀ i₀ total i = Upto (λ j. byte front (2 + j)) 255 281 i total
+Inv-loop front slots total₀ i₀ total i = Upto (λ j. byte front (2 + j)) 255 keyLength i total
 
 abbrev μ-loop : tie.MeasureT-loop
-μ-loop front slots total₀ i₀ total i = 281 - i
+μ-loop front slots total₀ i₀ total i = keyLength - i
 
 loop-holds : tie.Need-loop-holds Inv-loop μ-loop
 loop-holds c = upto-none _ _ _

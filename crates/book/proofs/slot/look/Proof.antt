@@ -5,8 +5,8 @@ use Prim.Native.Nat.{ℕ}
 use borrow.Author.Needs.{needs}
 use denote.Ref.{now}
 use Rattle.piece.specs.Numbers.{runOf}
-use Rattle.book.specs.Steps.{Recalls}
 use Rattle.block.proofs.Blocks.{nth-part}
+use Rattle.book.specs.Steps.{cleared, Recalls}
 use Rattle.book.proofs.slot.look.Statement.{statement}
 use Rattle.book.proofs.slot.look.Tie as tie
 
@@ -30,8 +30,8 @@ recall-requires c κs = search needs
 
 returns : tie.Need-returns
 returns c =
-    let a = c .before .before .before .before .args in
-    subst (λ (l : List ℕ). Recalls l (now (a .front)) (runOf (a .run)) (c .recall .result)) (nth-part (now (a .book)) (a .at)) (c .recall .ensures)
+    let a = c .before .before .before .before .args in let first = cleared (now (a .front)) (a .end) in
+    subst (λ (l : List ℕ). Recalls l first (runOf (a .run)) (c .recall .result)) (nth-part (now (a .book)) (a .at)) (c .recall .ensures)
 
 pub look-spec : {M : Type 1} → statement M
 look-spec =

@@ -1,45 +1,70 @@
 -- `book::slot::recall` meets its contract: a sound slot has the question's bytes, a possible code and no other byte. Assumes nothing.
-use mathlib.Core.Path.{_≡_, sym, ap, _∙_}
+use mathlib.Core.Path.{_≡_}
 use mathlib.Core.Logic.{inl, inr, ⊎-elim}
-use mathlib.Core.List.{_++_}
+use mathlib.Core.List.{List}
 use Prim.Native.Nat.{ℕ}
 use native.Mathlib.Omega.{arith}
 use borrow.Author.Needs.{needs}
+use lib.ListN.{length, length-take}
 use denote.Ref.{now}
+use Rattle.rules.specs.Reach.{Run}
 use Rattle.piece.specs.Numbers.{runOf}
-use Rattle.piece.proofs.Decide.{yes, no}
-use Rattle.block.specs.Layout.{blockOf}
-use Rattle.book.specs.Entry.{four}
-use Rattle.book.proofs.Look.{padded-length, sound-code}
+use Rattle.whole.proofs.Decide.{yes, no}
+use Rattle.book.specs.Entry.{codeAt}
+use Rattle.book.specs.Steps.{cleared}
+use Rattle.book.proofs.Look.{cleared-length, beyond, other, sound}
 use Rattle.book.proofs.slot.recall.Statement.{statement}
 use Rattle.book.proofs.slot.recall.Tie as tie
 
-code-in-requires : tie.Need-code-in-requires
-code-in-requires c κs = search needs
+-- what is given: the slot, the first bytes and the run
+abbrev start : tie.After-code-in → tie.Start
+start c = c .before .before .before
 
-mul-if2 : tie.Need-mul-if2
-mul-if2 c = search needs
+abbrev slot : tie.After-code-in → List ℕ
+slot c = now (start c .args .slot)
+
+abbrev first : tie.After-code-in → List ℕ
+first c = cleared (now (start c .args .front)) (start c .args .end)
+
+abbrev run : tie.After-code-in → Run
+run c = runOf (start c .args .run)
+
+long : (c : tie.After-code-in) → length (first c) ≡ codeAt
+long c = cleared-length (now (start c .args .front)) (start c .args .end) (start c .pre .1 .0)
 
 returns : tie.Need-returns
-returns c d s =
-    let b = c .before .before .before .before .before .before in let a = b .args in let code = c .before .before .before .code-in in
-    let e : d ≡ code .result = sound-code (now (a .slot)) (now (a .front)) (runOf (a .run)) d (padded-length (now (a .front)) (a .size) (b .pre .1 .0)) s ∙ sym (code .ensures) in
-    ⊎-elim (λ g. c .before .before .if1 .taken (sym e ∙ g)) (λ g. omega arith) (s .possible)
+returns c =
+    let d = c .before .before .before in let large = c .if2 .taken in
+    beyond (slot d) (first d) (run d) (long d) (d .code-in .result) (d .code-in .ensures) (c .before .before .if1 .taken) (omega arith)
+
+slice-aggregate-is-entry : tie.Need-slice-aggregate-is-entry
+slice-aggregate-is-entry c = let p = c .before .before .before .before .before .pre in let q = p .1 .0 in simp length-take (omega arith)
 
 is-entry-requires : tie.Need-is-entry-requires
-is-entry-requires c κs = search needs
+is-entry-requires c κs = let p = c .before .before .before .before .before .pre in let q = p .1 .0 in simp length-take (omega arith)
 
 returns-2 : tie.Need-returns-2
+unfolding cleared
 returns-2 c =
-    let w = c .before .is-entry in let code = c .before .before .before .code-in in let h = code .ok in
-    record { fits = omega arith; possible = ⊎-elim (λ v. inr (v .2 .left)) (λ v. inl (v .left)) (c .before .before .if1 .came); same = yes _ (w .result) (w .ensures) (c .if3 .taken) }
+    let d = c .before .before .before .before in let w = c .before .is-entry in let small = d .code-in .ok in
+    sound (slot d) (first d) (run d) (long d) (d .code-in .result) (d .code-in .ensures) (omega arith)
+    (⊎-elim (λ v. inr (v .2 .left)) (λ v. inl (v .left)) (c .before .before .before .if1 .came))
+    (yes _ (w .result) (w .ensures) (c .if3 .taken))
 
 returns-3 : tie.Need-returns-3
-returns-3 c d s =
-    let b = c .before .before .before .before .before .before in let a = b .args in let w = c .before .is-entry in let code = c .before .before .before .code-in in
-    let e : d ≡ code .result = sound-code (now (a .slot)) (now (a .front)) (runOf (a .run)) d (padded-length (now (a .front)) (a .size) (b .pre .1 .0)) s ∙ sym (code .ensures) in
-    no _ (w .result) (w .ensures) (c .if3 .left) (s .same ∙ ap (λ (n : ℕ). blockOf (now (a .front) ++ four n)) e)
+unfolding cleared
+returns-3 c =
+    let d = c .before .before .before .before in let w = c .before .is-entry in
+    other (slot d) (first d) (run d) (long d) (d .code-in .result) (d .code-in .ensures) (no _ (w .result) (w .ensures) (c .if3 .left))
 
 pub recall-spec : {M : Type 1} → statement M
 recall-spec =
-    tie.close (tie.spec code-in-requires mul-if2 returns is-entry-requires returns-2 returns-3)
+    tie.close
+    (tie.spec
+    (λ c κs. search needs)
+    (λ c. search needs)
+    returns
+    slice-aggregate-is-entry
+    is-entry-requires
+    returns-2
+    returns-3)

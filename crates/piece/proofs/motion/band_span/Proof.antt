@@ -32,7 +32,9 @@ rise c = read w64 (c .gap .ok) (c .gap .ensures ∙ search needs)
 above : (c : tie.After-gap2) → let a = c .before .before .before .before .before .before .before .args in toZ w64 (ofZ w64 (c .gap2 .result)) ≡ a .run .z -ℤ a .band .bottom
 above c = read w64 (c .gap2 .ok) (c .gap2 .ensures ∙ search needs)
 
-under : (c : tie.After-gap3) → let a = c .before .before .before .before .before .before .before .before .before .before .before .args in toZ w64 (ofZ w64 (c .gap3 .result)) ≡ a .band .top -ℤ a .run .z
+under : (c : tie.After-gap3)
+    → let a = c .before .before .before .before .before .before .before .before .before .before .before .args in toZ w64 (ofZ w64 (c .gap3 .result)) ≡ a .band
+    .top -ℤ a .run .z
 under c = read w64 (c .gap3 .ok) (c .gap3 .ensures ∙ search needs)
 
 -- the run's length

@@ -30,7 +30,9 @@ along-requires-2 c κs =
 the-x : (c : tie.After-along) → let a = c .before .before .before .before .before .args in toZ w64 (ofZ w64 (c .along .result)) ≡ a .s .«low_d» *ℤ a .m .x +ℤ a .s .«low_n» *ℤ a .m .u
 the-x c = read w64 (c .along .ok) (c .along .ensures ∙ search needs)
 
-the-y : (c : tie.After-along2) → let a = c .before .before .before .before .before .before .before .before .before .before .args in toZ w64 (ofZ w64 (c .along2 .result)) ≡ a .s .«low_d» *ℤ a .m .y +ℤ a .s .«low_n» *ℤ a .m .v
+the-y : (c : tie.After-along2)
+    → let a = c .before .before .before .before .before .before .before .before .before .before .args in toZ w64 (ofZ w64 (c .along2 .result)) ≡ a .s .«low_d»
+    *ℤ a .m .y +ℤ a .s .«low_n» *ℤ a .m .v
 the-y c = read w64 (c .along2 .ok) (c .along2 .ensures ∙ search needs)
 
 place-at-requires : tie.Need-place-at-requires

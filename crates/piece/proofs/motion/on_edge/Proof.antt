@@ -18,7 +18,8 @@ within-requires c κs = flat-read _ _ _ _ _ (flat-x _ _ _ _ _ (c .before .before
 first-within : (c : tie.After-within) →
     let a = c .before .before .before .before .before .before .args in
     spanOf (c .within .result) ≡ within (a .m .x) (a .m .u) (onLine (startOf (a .m)) (speedOf (a .m)) (spanOf (a .s)) (fromOf (a .e)) (toOf (a .e))) (a .e .ax) (a .e .bx)
-first-within c = within-read _ _ _ _ _ (flat-x _ _ _ _ _ (c .before .before .before .before .before .before .pre)) _ _ (c .within .ensures) (c .before .before .before .before .before .on-line .ensures)
+first-within c = within-read _ _ _ _ _ (flat-x _ _ _ _ _ (c .before .before .before .before .before .before .pre)) _ _ (c .within .ensures)
+    (c .before .before .before .before .before .on-line .ensures)
 
 within-requires-2 : tie.Need-within-requires-2
 within-requires-2 c κs =

@@ -3,13 +3,13 @@ use mathlib.Core.Path.{_≡_, sym, subst, ap, _∙_}
 use native.Mathlib.Omega.{arith}
 use Prim.Native.Nat.{_≤_}
 use lib.IntN.{ℤ, negℤ, natAbs}
-use borrow.Author.Needs.{needs}
 use mir.Syntax.{w64}
 use mir.Val.{toZ, ofZ}
-use Rattle.whole.proofs.Range.{read}
-use Rattle.decide.specs.Side.{sideOf}
+use Rattle.whole.proofs.Range.{read, field}
+use Rattle.decide.specs.Side.{side, sideOf}
 use Rattle.decide.specs.Span as decide
 use Rattle.decide.specs.Touch.{swing, onLine}
+use Rattle.footprint.specs.Steps.{SideSteps}
 use Rattle.piece.specs.Moving.{spanOf, Small, Slope}
 use Rattle.piece.specs.Touch.{startOf, speedOf, fromOf, toOf}
 use Rattle.piece.proofs.Moving.{small-clip, turned, turned-fits}
@@ -34,12 +34,24 @@ slope b = line _ _ _ _ _ (b .pre)
 steep : (b : tie.Start) → natAbs (β b) ≤ 8589934592
 steep b = let h = slope b .slope in omega (arith, h)
 
+-- what holds of the six numbers holds of them as a call reads them
+as-read : (b : tie.Start) (Q : ℤ → ℤ → ℤ → ℤ → ℤ → ℤ → Type 0) →
+    let e = b .args .e in
+    let m = b .args .m in
+    Q (e .ax) (e .ay) (e .bx) (e .by) (m .x) (m .y)
+    → Q (toZ w64 (ofZ w64 (e .ax))) (toZ w64 (ofZ w64 (e .ay))) (toZ w64 (ofZ w64 (e .bx))) (toZ w64 (ofZ w64 (e .by))) (toZ w64 (ofZ w64 (m .x))) (toZ w64 (ofZ w64 (m .y)))
+as-read b Q h =
+    let e = b .args .e in
+    let m = b .args .m in
+    rw (field w64 (e .ax) (omega arith), field w64 (e .ay) (omega arith), field w64 (e .bx) (omega arith), field w64 (e .by) (omega arith))
+    (rw (field w64 (m .x) (omega arith), field w64 (m .y) (omega arith)) h)
+
 side-requires : tie.Need-side-requires
-side-requires c κs = let h = line-steps _ _ _ _ _ (c .before .before .before .before .before .before .pre) in search needs
+side-requires c κs = let b = c .before .before .before .before .before .before in as-read b SideSteps (line-steps _ _ _ _ _ (b .pre))
 
 -- the two, read back
 the-side : (c : tie.After-side) → toZ w64 (ofZ w64 (c .side .result)) ≡ α (start c)
-the-side c = read w64 (c .side .ok) (c .side .ensures ∙ search needs)
+the-side c = read w64 (c .side .ok) (as-read (start c) (λ ax ay bx by x y. c .side .result ≡ side ax ay bx by x y → c .side .result ≡ α (start c)) (λ e. e) (c .side .ensures))
 
 swing-requires : tie.Need-swing-requires
 swing-requires c κs = swing-steps _ _ _ _ _ (start c .pre)

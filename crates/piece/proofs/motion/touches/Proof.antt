@@ -1,7 +1,7 @@
 -- `motion::touches` is touches over all edges. Assumes nothing.
 use mathlib.Core.List.{List}
-use mathlib.Core.Path.{_≡_, refl, sym, subst}
-use Prim.Native.Nat.{ℕ, _+_, _/_, _≤_, _<_, _-_, min}
+use mathlib.Core.Path.{_≡_, refl, sym, subst, _∙_}
+use Prim.Native.Nat.{ℕ, _+_, _*_, _/_, _≤_, _<_, _-_, min}
 use native.Mathlib.Omega.{arith}
 use native.Mathlib.Numerals.{add-one}
 use lib.IntN.{ℤ, _-ℤ_}
@@ -12,13 +12,14 @@ use Rattle.whole.proofs.Range.{read}
 use Rattle.rules.specs.Ring.{ring, next, from, to}
 use Rattle.rules.proofs.Ring.{next-inner, next-below}
 use Rattle.decide.specs.Touch.{across, touch, touches}
+use Rattle.footprint.proofs.Back.{around-next}
 use Rattle.piece.specs.declared.motion.Motion.{Motion}
 use Rattle.piece.specs.declared.span.Span.{Span}
 use Rattle.piece.specs.Moving.{spanOf}
 use Rattle.piece.specs.Place.{pt}
-use Rattle.piece.specs.Steps.{CrossSteps}
+use Rattle.footprint.specs.Steps.{CrossSteps}
 use Rattle.piece.specs.Touch.{startOf, speedOf, Close, Ready, Standing}
-use Rattle.piece.proofs.Steps.{reach-abs}
+use Rattle.footprint.proofs.Steps.{reach-abs}
 use Rattle.piece.proofs.Touch.{across-steps}
 use Rattle.piece.proofs.motion.touches.Statement.{statement}
 use Rattle.piece.proofs.motion.touches.Tie as tie
@@ -63,15 +64,15 @@ module _ (l : List ℤ) (m : Motion) (s : Span) (h : Standing l (startOf m) (spe
   unfolding touches
   step i best t b ax ay c bx by d e f g u v = rw (add-one i, v, e, u, f .corner, g .corner)
 
-x-requires : tie.Need-x-requires Inv-loop μ-loop
-x-requires c κs = some (c .args .l .now) (c .args .m) (c .args .s) (c .pre)
+at-requires : tie.Need-at-requires Inv-loop μ-loop
+at-requires c κs = omega (arith, some (c .args .l .now) (c .args .m) (c .args .s) (c .pre))
 
-y-requires : tie.Need-y-requires Inv-loop μ-loop
-y-requires c κs = let b = c .before in some (b .args .l .now) (b .args .m) (b .args .s) (b .pre)
+at-requires-2 : tie.Need-at-requires-2 Inv-loop μ-loop
+at-requires-2 c κs = let b = c .before in omega (arith, some (b .args .l .now) (b .args .m) (b .args .s) (b .pre))
 
 -- corner 0
-corner-0 : (c : tie.After-y Inv-loop μ-loop) → pt (toZ w64 (ofZ w64 (c .before .x .result))) (toZ w64 (ofZ w64 (c .y .result))) ≡ ring (c .before .before .args .l .now) .at 0
-corner-0 c = corner-is (c .before .before .args .l .now) 0 _ _ (read w64 (c .before .x .ok) (c .before .x .ensures)) (read w64 (c .y .ok) (c .y .ensures))
+corner-0 : (c : tie.After-at2 Inv-loop μ-loop) → pt (toZ w64 (ofZ w64 (c .before .at .result))) (toZ w64 (ofZ w64 (c .at2 .result))) ≡ ring (c .before .before .args .l .now) .at 0
+corner-0 c = corner-is (c .before .before .args .l .now) 0 _ _ (read w64 (c .before .at .ok) (c .before .at .ensures)) (read w64 (c .at2 .ok) (c .at2 .ensures))
 
 across-requires : tie.Need-across-requires Inv-loop μ-loop
 across-requires c κs = let b = c .before .before in crossed (b .args .l .now) (b .args .m) (b .args .s) (b .pre) 0 _ _ (some (b .args .l .now) (b .args .m) (b .args .s) (b .pre)) (corner-0 c)
@@ -80,26 +81,49 @@ loop-holds : tie.Need-loop-holds Inv-loop μ-loop
 unfolding touches
 loop-holds c = record { bound = omega arith; first = refl; here = λ h. record { corner = corner-0 (c .before); side = read w64 (c .across .ok) (c .across .ensures) } }
 
-next-requires : tie.Need-next-requires Inv-loop μ-loop
-next-requires c κs = c .loop-test .taken
+add-around : tie.Need-add-around Inv-loop μ-loop
+add-around c = let h = c .loop-test .taken in let g = c .before .before .before .before .before .good .0 in omega (arith, h, g)
+
+around-requires : tie.Need-around-requires Inv-loop μ-loop
+around-requires c κs = tt
 
 -- the next corner's number
-below : (c : tie.After-next Inv-loop μ-loop) → c .next .result < length (c .before .before .before .before .before .before .args .l .now) / 2
-below c = rw (c .next .ensures) (next-below _ _ (c .before .loop-test .taken))
+next-is : (c : tie.After-around Inv-loop μ-loop) → c .around .result ≡ next (ring (c .before .before .before .before .before .before .args .l .now) .size) (c .before .before .loop .i)
+next-is c = c .around .ensures ∙ around-next _ _
 
-x-requires-2 : tie.Need-x-requires-2 Inv-loop μ-loop
-x-requires-2 c κs = below c
+below : (c : tie.After-around Inv-loop μ-loop) → c .around .result < length (c .before .before .before .before .before .before .args .l .now) / 2
+below c = rw (next-is c) (next-below _ _ (c .before .loop-test .taken))
 
-y-requires-2 : tie.Need-y-requires-2 Inv-loop μ-loop
-y-requires-2 c κs = below (c .before)
+short : (c : tie.After-around Inv-loop μ-loop) → 2 * c .around .result + 1 < length (c .before .before .before .before .before .before .args .l .now)
+short c = omega (arith, below c)
 
-corner-next : (c : tie.After-y2 Inv-loop μ-loop) →
+mul-at : tie.Need-mul-at Inv-loop μ-loop
+mul-at c = let g = c .before .before .before .before .before .before .good .0 in omega (arith, short c, g)
+
+at-requires-3 : tie.Need-at-requires-3 Inv-loop μ-loop
+at-requires-3 c κs = omega (arith, short c)
+
+mul-at-2 : tie.Need-mul-at-2 Inv-loop μ-loop
+mul-at-2 c = mul-at (c .before)
+
+add-at : tie.Need-add-at Inv-loop μ-loop
+add-at c = let g = c .before .before .before .before .before .before .before .good .0 in omega (arith, short (c .before), g)
+
+at-requires-4 : tie.Need-at-requires-4 Inv-loop μ-loop
+at-requires-4 c κs = short (c .before)
+
+corner-next : (c : tie.After-at4 Inv-loop μ-loop) →
     let l = c .before .before .before .before .before .before .before .before .args .l .now in
-    pt (toZ w64 (ofZ w64 (c .before .x2 .result))) (toZ w64 (ofZ w64 (c .y2 .result))) ≡ ring l .at (next (ring l .size) (c .before .before .before .before .loop .i))
-corner-next c = rw (← c .before .before .next .ensures) (corner-is (c .before .before .before .before .before .before .before .before .args .l .now) (c .before .before .next .result) _ _ (read w64 (c .before .x2 .ok) (c .before .x2 .ensures)) (read w64 (c .y2 .ok) (c .y2 .ensures)))
+    pt (toZ w64 (ofZ w64 (c .before .at3 .result))) (toZ w64 (ofZ w64 (c .at4 .result))) ≡ ring l .at (next (ring l .size) (c .before .before .before .before .loop .i))
+corner-next c =
+    let a = c .before .before in
+    let l = a .before .before .before .before .before .before .args .l .now in
+    rw (← next-is a) (corner-is l (a .around .result) _ _ (read w64 (c .before .at3 .ok) (c .before .at3 .ensures)) (read w64 (c .at4 .ok) (c .at4 .ensures)))
 
 across-requires-2 : tie.Need-across-requires-2 Inv-loop μ-loop
-across-requires-2 c κs = let b = c .before .before .before .before .before .before .before .before in crossed (b .args .l .now) (b .args .m) (b .args .s) (b .pre) _ _ _ (next-below _ _ (c .before .before .before .loop-test .taken)) (corner-next c)
+across-requires-2 c κs =
+    let b = c .before .before .before .before .before .before .before .before in
+    crossed (b .args .l .now) (b .args .m) (b .args .s) (b .pre) _ _ _ (next-below _ _ (c .before .before .before .loop-test .taken)) (corner-next c)
 
 -- the edge's two ends
 at-from : (c : tie.After-across2 Inv-loop μ-loop) →
@@ -111,19 +135,23 @@ at-from c = c .before .before .before .before .before .loop .inv .here (c .befor
 at-to : (c : tie.After-across2 Inv-loop μ-loop) →
     let g = c .before .before .before .before .before in
     let b = g .before .before .before .before in
-    At (b .args .l .now) (b .args .m) (next (ring (b .args .l .now) .size) (g .loop .i)) (toZ w64 (ofZ w64 (c .before .before .x2 .result))) (toZ w64 (ofZ w64 (c .before .y2 .result))) (toZ w64 (ofZ w64 (c .across2 .result)))
+    let l = b .args .l .now in
+    At l (b .args .m) (next (ring l .size) (g .loop .i)) (toZ w64 (ofZ w64 (c .before .before .at3 .result))) (toZ w64 (ofZ w64 (c .before .at4 .result))) (toZ w64 (ofZ w64 (c .across2 .result)))
 at-to c = record { corner = corner-next (c .before); side = read w64 (c .across2 .ok) (c .across2 .ensures) }
 
 touch-requires : tie.Need-touch-requires Inv-loop μ-loop
 touch-requires c κs =
     let b = c .before .before .before .before .before .before .before .before .before in
-    (ready (b .args .l .now) (b .args .m) (b .args .s) (b .pre) _ _ _ _ _ _ _ _ (c .before .before .before .before .loop-test .taken) (next-below _ _ (c .before .before .before .before .loop-test .taken)) (at-from c) (at-to c), (at-from c .side, at-to c .side))
+    let h = c .before .before .before .before .loop-test .taken in
+    (ready (b .args .l .now) (b .args .m) (b .args .s) (b .pre) _ _ _ _ _ _ _ _ h (next-below _ _ h) (at-from c) (at-to c), (at-from c .side, at-to c .side))
 
 earlier-requires : tie.Need-earlier-requires Inv-loop μ-loop
 earlier-requires c κs = tt
 
 -- i stays below the count
-turn : (c : tie.After-earlier Inv-loop μ-loop) → let b = c .before .before .before .before .before .before .before .before .before .before .before in c .before .before .before .before .before .before .before .loop .i < length (b .args .l .now) / 2
+turn : (c : tie.After-earlier Inv-loop μ-loop) →
+    let g = c .before .before .before .before .before .before .before in
+    g .loop .i < length (g .before .before .before .before .args .l .now) / 2
 turn c = c .before .before .before .before .before .before .loop-test .taken
 
 add-i : tie.Need-add-i Inv-loop μ-loop
@@ -140,7 +168,8 @@ loop-again c =
     let h = turn c in
     record {
       bound = omega (arith, h);
-      first = step (b .args .l .now) (b .args .m) (b .args .s) (b .pre) (g .loop .i) (g .loop .best) (c .before .touch .result) (c .earlier .result) _ _ _ _ _ _ (g .loop .inv .first) (at-from d) (at-to d) (c .before .touch .ensures) (c .earlier .ensures);
+      first = step (b .args .l .now) (b .args .m) (b .args .s) (b .pre) (g .loop .i) (g .loop .best) (c .before .touch .result) (c .earlier .result) _ _ _ _ _ _ (g .loop .inv .first)
+          (at-from d) (at-to d) (c .before .touch .ensures) (c .earlier .ensures);
       here = λ k. rw (add-one (g .loop .i)) (rw (next-inner _ _ (rw (add-one (g .loop .i)) at k)) at (at-to d));
     }
 
@@ -151,4 +180,7 @@ returns c =
     rw e at (v .first)
 
 pub touches-spec : {M : Type 1} → statement M
-touches-spec = tie.close (tie.spec Inv-loop μ-loop x-requires y-requires across-requires loop-holds next-requires x-requires-2 y-requires-2 across-requires-2 touch-requires earlier-requires add-i loop-less loop-again returns)
+touches-spec =
+    tie.close
+    (tie.spec Inv-loop μ-loop at-requires at-requires-2 across-requires loop-holds add-around around-requires mul-at at-requires-3 mul-at-2 add-at at-requires-4
+    across-requires-2 touch-requires earlier-requires add-i loop-less loop-again returns)

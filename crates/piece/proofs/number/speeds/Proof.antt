@@ -1,7 +1,7 @@
 -- `number::speeds` decides. Assumes nothing.
 use lib.IntN.{pos, negsuc}
 use mir.Facts.{toZ-ofZ}
-use Rattle.piece.proofs.Decide.{between-yes, between-no}
+use Rattle.rules.proofs.Reach.{between-yes, between-no}
 use Rattle.piece.proofs.number.speeds.Statement.{statement}
 use Rattle.piece.proofs.number.speeds.Tie as tie
 

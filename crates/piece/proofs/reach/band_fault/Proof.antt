@@ -9,9 +9,9 @@ use mir.Syntax.{w32}
 use Rattle.rules.specs.Reach.{Piece, Reach}
 use Rattle.rules.specs.Good.{bandNumber}
 use Rattle.whole.proofs.Range.{field}
-use Rattle.piece.specs.Decide.{Seeks}
+use Rattle.whole.specs.Decide.{Seeks}
 use Rattle.piece.specs.Numbers.{pieceOf, speedNumber}
-use Rattle.piece.proofs.Decide.{Below, none-yet, one-more, stop, passed, of-three, onward, taken, rejected, taken2, rejected2}
+use Rattle.whole.proofs.Decide.{Below, none-yet, one-more, stop, passed, of-three, onward, taken, rejected, taken2, rejected2}
 use Rattle.piece.proofs.reach.band_fault.Statement.{statement}
 use Rattle.piece.proofs.reach.band_fault.Tie as tie
 
@@ -39,29 +39,19 @@ past2 : (c : tie.Else2) → Below (Bad (piece (c .before .before .before .before
 past2 c = one-more _ 1 (past1 (c .before .before .before .before)) (λ f. f (taken2 Tops w32 _ _ (c .before .tops .result) (omega arith) (omega arith) (c .before .tops .ensures) (c .if2 .left)))
 
 speed : (c : tie.After-speed-fault) → Seeks (BadSpeed (piece (c .before .before .before .before .before .before .before .before .before .before .before))) 3 (c .speed-fault .result)
-speed c = let b = c .before .before .before .before .before .before .before .before .before .before .before .args .band in rw (field w32 (b .vx) (omega arith), field w32 (b .vy) (omega arith), field w32 (b .vz) (omega arith)) at (c .speed-fault .ensures)
-
-reaches-requires : tie.Need-reaches-requires
-reaches-requires c κs = search needs
+speed c = let b = c .before .before .before .before .before .before .before .before .before .before .before .args .band in
+    rw (field w32 (b .vx) (omega arith), field w32 (b .vy) (omega arith), field w32 (b .vz) (omega arith)) at (c .speed-fault .ensures)
 
 returns : tie.Need-returns
 returns c = stop _ 5 0 (none-yet _) (rejected Reach w32 _ (c .before .reaches .result) (omega arith) (c .before .reaches .ensures) (c .if1 .taken))
 
-tops-requires : tie.Need-tops-requires
-tops-requires c κs = search needs
-
 returns-2 : tie.Need-returns-2
 returns-2 c = stop _ 5 1 (past1 (c .before .before .before .before)) (rejected2 Tops w32 _ _ (c .before .tops .result) (omega arith) (omega arith) (c .before .tops .ensures) (c .if2 .taken))
 
-speed-fault-requires : tie.Need-speed-fault-requires
-speed-fault-requires c κs = search needs
-
-add-result : tie.Need-add-result
-add-result c = search needs
-
 returns-3 : tie.Need-returns-3
 returns-3 c = let s = speed (c .before) in
-    stop _ 5 _ (onward _ _ 2 3 _ (past2 (c .before .before .before .before .before)) (λ j l. of-speed _ j l .0) s _ (omega arith) (omega arith)) (of-speed _ _ (c .if3 .taken) .1 (s .found (c .if3 .taken)))
+    stop _ 5 _ (onward _ _ 2 3 _ (past2 (c .before .before .before .before .before)) (λ j l. of-speed _ j l .0) s _ (omega arith) (omega arith))
+    (of-speed _ _ (c .if3 .taken) .1 (s .found (c .if3 .taken)))
 
 returns-4 : tie.Need-returns-4
 returns-4 c = passed _ 5 (onward _ _ 2 3 _ (past2 (c .before .before .before .before .before)) (λ j l. of-speed _ j l .0) (speed (c .before)) 3 (omega arith) (omega arith))
@@ -70,11 +60,11 @@ pub band-fault-spec : {M : Type 1} → statement M
 band-fault-spec =
     tie.close
     (tie.spec
-    reaches-requires
+    (λ c κs. search needs)
     returns
-    tops-requires
+    (λ c κs. search needs)
     returns-2
-    speed-fault-requires
-    add-result
+    (λ c κs. search needs)
+    (λ c. search needs)
     returns-3
     returns-4)

@@ -1,5 +1,5 @@
 -- `reach::point_fault` finds the first number of a point that is not taken. Assumes nothing.
-use Rattle.piece.proofs.Decide.{Below, none-yet, one-more, stop, passed, taken, rejected}
+use Rattle.whole.proofs.Decide.{Below, none-yet, one-more, stop, passed, taken, rejected}
 use Rattle.piece.specs.Place.{pt}
 use Rattle.rules.specs.Place.{pointNumber}
 use Rattle.rules.specs.Reach.{Reach}
@@ -21,10 +21,14 @@ reaches-requires-2 : tie.Need-reaches-requires-2
 reaches-requires-2 c κs = search needs
 
 returns-2 : tie.Need-returns-2
-returns-2 c = stop _ 2 1 (past1 (c .before .before)) (rejected Reach w32 _ (c .before .reaches2 .result) (c .before .before .before .before .fits .y .sfits) (c .before .reaches2 .ensures) (c .if2 .taken))
+returns-2 c = stop _ 2 1 (past1 (c .before .before))
+    (rejected Reach w32 _ (c .before .reaches2 .result) (c .before .before .before .before .fits .y .sfits) (c .before .reaches2 .ensures) (c .if2 .taken))
 
 returns-3 : tie.Need-returns-3
-returns-3 c = passed _ 2 (one-more _ 1 (past1 (c .before .before)) (λ f. f (taken Reach w32 _ (c .before .reaches2 .result) (c .before .before .before .before .fits .y .sfits) (c .before .reaches2 .ensures) (c .if2 .left))))
+returns-3 c = passed _ 2
+    (one-more _ 1 (past1 (c .before .before))
+    (λ f. f
+    (taken Reach w32 _ (c .before .reaches2 .result) (c .before .before .before .before .fits .y .sfits) (c .before .reaches2 .ensures) (c .if2 .left))))
 
 pub point-fault-spec : {M : Type 1} → statement M
 point-fault-spec =

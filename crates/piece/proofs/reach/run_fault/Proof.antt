@@ -7,10 +7,10 @@ use Rattle.whole.proofs.Range.{field}
 use Rattle.rules.specs.Reach.{Run, Reach}
 use Rattle.rules.specs.Good.{runNumber}
 use Rattle.rules.specs.Place.{pointNumber}
-use Rattle.piece.specs.Decide.{Seeks}
+use Rattle.whole.specs.Decide.{Seeks}
 use Rattle.piece.specs.Numbers.{runOf, speedNumber}
 use Rattle.piece.specs.Place.{pt}
-use Rattle.piece.proofs.Decide.{none-found, Below, one-more, stop, passed, of-three, onward, taken, rejected}
+use Rattle.whole.proofs.Decide.{none-found, Below, one-more, stop, passed, of-three, onward, taken, rejected}
 use Rattle.piece.proofs.reach.run_fault.Statement.{statement}
 use Rattle.piece.proofs.reach.run_fault.Tie as tie
 
@@ -39,7 +39,8 @@ point : (c : tie.After-point-fault) → Seeks (BadPoint (run (c .before .before 
 point c = let r = c .before .before .before .args .run in rw (field w32 (r .x) (omega arith), field w32 (r .y) (omega arith)) at (c .point-fault .ensures)
 
 speed : (c : tie.After-speed-fault) → Seeks (BadSpeed (run (c .before .before .before .before .before .before .before .before .before .before .before))) 3 (c .speed-fault .result)
-speed c = let r = c .before .before .before .before .before .before .before .before .before .before .before .args .run in rw (field w32 (r .vx) (omega arith), field w32 (r .vy) (omega arith), field w32 (r .vz) (omega arith)) at (c .speed-fault .ensures)
+speed c = let r = c .before .before .before .before .before .before .before .before .before .before .before .args .run in
+    rw (field w32 (r .vx) (omega arith), field w32 (r .vy) (omega arith), field w32 (r .vz) (omega arith)) at (c .speed-fault .ensures)
 
 -- the numbers passed after each test
 past2 : (c : tie.Else1) → Below (Bad (run (c .before .before .before .before))) 2
@@ -51,28 +52,17 @@ past3 c = one-more _ 2 (past2 (c .before .before .before)) (λ f. f (taken Reach
 past6 : (c : tie.Else3) → Below (Bad (run (c .before .before .before .before .before .before .before .before .before .before .before .before))) 6
 past6 c = onward _ _ 3 3 _ (past3 (c .before .before .before .before .before)) (λ j l. of-speed _ j l .0) (speed (c .before)) 3 (omega arith) (omega arith)
 
-point-fault-requires : tie.Need-point-fault-requires
-point-fault-requires c κs = search needs
-
 returns : tie.Need-returns
 returns c = let s = point (c .before) in
     stop _ 7 _ (λ j l b. s .before j l (omega arith) (of-point _ j (omega arith) .0 b)) (of-point _ _ (c .if1 .taken) .1 (s .found (c .if1 .taken)))
 
-reaches-requires : tie.Need-reaches-requires
-reaches-requires c κs = search needs
-
 returns-2 : tie.Need-returns-2
 returns-2 c = stop _ 7 2 (past2 (c .before .before .before)) (rejected Reach w32 _ (c .before .reaches .result) (omega arith) (c .before .reaches .ensures) (c .if2 .taken))
 
-speed-fault-requires : tie.Need-speed-fault-requires
-speed-fault-requires c κs = search needs
-
-add-result : tie.Need-add-result
-add-result c = search needs
-
 returns-3 : tie.Need-returns-3
 returns-3 c = let s = speed (c .before) in
-    stop _ 7 _ (onward _ _ 3 3 _ (past3 (c .before .before .before .before .before)) (λ j l. of-speed _ j l .0) s _ (omega arith) (omega arith)) (of-speed _ _ (c .if3 .taken) .1 (s .found (c .if3 .taken)))
+    stop _ 7 _ (onward _ _ 3 3 _ (past3 (c .before .before .before .before .before)) (λ j l. of-speed _ j l .0) s _ (omega arith) (omega arith))
+    (of-speed _ _ (c .if3 .taken) .1 (s .found (c .if3 .taken)))
 
 returns-4 : tie.Need-returns-4
 returns-4 c = stop _ 7 6 (past6 (c .before .before)) (λ h. omega arith)
@@ -84,12 +74,12 @@ pub run-fault-spec : {M : Type 1} → statement M
 run-fault-spec =
     tie.close
     (tie.spec
-    point-fault-requires
+    (λ c κs. search needs)
     returns
-    reaches-requires
+    (λ c κs. search needs)
     returns-2
-    speed-fault-requires
-    add-result
+    (λ c κs. search needs)
+    (λ c. search needs)
     returns-3
     returns-4
     returns-5)

@@ -4,7 +4,7 @@ use borrow.Author.Needs.{needs}
 use mir.Syntax.{w32}
 use Rattle.rules.specs.Reach.{Speed}
 use Rattle.piece.specs.Numbers.{speedNumber}
-use Rattle.piece.proofs.Decide.{Below, none-yet, one-more, stop, passed, taken, rejected}
+use Rattle.whole.proofs.Decide.{Below, none-yet, one-more, stop, passed, taken, rejected}
 use Rattle.piece.proofs.reach.speed_fault.Statement.{statement}
 use Rattle.piece.proofs.reach.speed_fault.Tie as tie
 
@@ -15,7 +15,8 @@ past1 : (c : tie.Else1) → Below (Bad (c .before .before)) 1
 past1 c = one-more _ 0 (none-yet _) (λ f. f (taken Speed w32 _ (c .before .speeds .result) (c .before .before .fits .x .sfits) (c .before .speeds .ensures) (c .if1 .left)))
 
 past2 : (c : tie.Else2) → Below (Bad (c .before .before .before .before)) 2
-past2 c = one-more _ 1 (past1 (c .before .before)) (λ f. f (taken Speed w32 _ (c .before .speeds2 .result) (c .before .before .before .before .fits .y .sfits) (c .before .speeds2 .ensures) (c .if2 .left)))
+past2 c = one-more _ 1 (past1 (c .before .before))
+    (λ f. f (taken Speed w32 _ (c .before .speeds2 .result) (c .before .before .before .before .fits .y .sfits) (c .before .speeds2 .ensures) (c .if2 .left)))
 
 speeds-requires : tie.Need-speeds-requires
 speeds-requires c κs = search needs
@@ -27,16 +28,23 @@ speeds-requires-2 : tie.Need-speeds-requires-2
 speeds-requires-2 c κs = search needs
 
 returns-2 : tie.Need-returns-2
-returns-2 c = stop _ 3 1 (past1 (c .before .before)) (rejected Speed w32 _ (c .before .speeds2 .result) (c .before .before .before .before .fits .y .sfits) (c .before .speeds2 .ensures) (c .if2 .taken))
+returns-2 c = stop _ 3 1 (past1 (c .before .before))
+    (rejected Speed w32 _ (c .before .speeds2 .result) (c .before .before .before .before .fits .y .sfits) (c .before .speeds2 .ensures) (c .if2 .taken))
 
 speeds-requires-3 : tie.Need-speeds-requires-3
 speeds-requires-3 c κs = search needs
 
 returns-3 : tie.Need-returns-3
-returns-3 c = stop _ 3 2 (past2 (c .before .before)) (rejected Speed w32 _ (c .before .speeds3 .result) (c .before .before .before .before .before .before .fits .z .sfits) (c .before .speeds3 .ensures) (c .if3 .taken))
+returns-3 c = stop _ 3 2 (past2 (c .before .before))
+    (rejected Speed w32 _ (c .before .speeds3 .result) (c .before .before .before .before .before .before .fits .z .sfits) (c .before .speeds3 .ensures)
+    (c .if3 .taken))
 
 returns-4 : tie.Need-returns-4
-returns-4 c = passed _ 3 (one-more _ 2 (past2 (c .before .before)) (λ f. f (taken Speed w32 _ (c .before .speeds3 .result) (c .before .before .before .before .before .before .fits .z .sfits) (c .before .speeds3 .ensures) (c .if3 .left))))
+returns-4 c = passed _ 3
+    (one-more _ 2 (past2 (c .before .before))
+    (λ f. f
+    (taken Speed w32 _ (c .before .speeds3 .result) (c .before .before .before .before .before .before .fits .z .sfits) (c .before .speeds3 .ensures)
+    (c .if3 .left))))
 
 pub speed-fault-spec : {M : Type 1} → statement M
 speed-fault-spec =

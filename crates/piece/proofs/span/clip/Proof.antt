@@ -52,13 +52,15 @@ returns-3 c =
     let b = c .before .before .before .before in
     let a = b .args in
     c .none .ensures
-    ∙ clip-none (spanOf (a .s)) (a .a) (a .b) (rw (toZ-ofZ (b .fits .b)) at (c .before .before .before .if1 .left)) (rw (toZ-ofZ (b .fits .b)) at (c .before .before .if2 .left)) (rw (toZ-ofZ (b .fits .a)) at (c .before .if3 .taken))
+    ∙ clip-none (spanOf (a .s)) (a .a) (a .b) (rw (toZ-ofZ (b .fits .b)) at (c .before .before .before .if1 .left))
+    (rw (toZ-ofZ (b .fits .b)) at (c .before .before .if2 .left)) (rw (toZ-ofZ (b .fits .a)) at (c .before .if3 .taken))
 
 returns-4 : tie.Need-returns-4
 returns-4 c =
     let b = c .before .before .before in
     let a = b .args in
-    clip-all (spanOf (a .s)) (a .a) (a .b) (rw (toZ-ofZ (b .fits .b)) at (c .before .before .if1 .left)) (rw (toZ-ofZ (b .fits .b)) at (c .before .if2 .left)) (rw (toZ-ofZ (b .fits .a)) at (c .if3 .left))
+    clip-all (spanOf (a .s)) (a .a) (a .b) (rw (toZ-ofZ (b .fits .b)) at (c .before .before .if1 .left)) (rw (toZ-ofZ (b .fits .b)) at (c .before .if2 .left))
+    (rw (toZ-ofZ (b .fits .a)) at (c .if3 .left))
 
 pub clip-spec : {M : Type 1} → statement M
 clip-spec = tie.close (tie.spec sub-raise raise-requires returns sub-lower lower-requires returns-2 none-requires returns-3 returns-4)

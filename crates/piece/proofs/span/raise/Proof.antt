@@ -12,7 +12,9 @@ use Rattle.piece.proofs.span.raise.Statement.{statement}
 use Rattle.piece.proofs.span.raise.Tie as tie
 
 said : (c : tie.After-sooner) → let b = c .before .before .before in let s = b .args .s in c .sooner .result ≡ ltZ (s .«low_n» *ℤ b .args .d) (b .args .n *ℤ s .«low_d»)
-said c = let b = c .before .before .before in c .sooner .ensures ∙ rw (field w64 (b .args .s .«low_n») (omega arith), field w64 (b .args .s .«low_d») (omega arith), toZ-ofZ (b .fits .n), toZ-ofZ (b .fits .d))
+said c = let b = c .before .before .before in
+    c .sooner .ensures
+    ∙ rw (field w64 (b .args .s .«low_n») (omega arith), field w64 (b .args .s .«low_d») (omega arith), toZ-ofZ (b .fits .n), toZ-ofZ (b .fits .d))
 
 sooner-requires : tie.Need-sooner-requires
 sooner-requires c κs = search needs
@@ -21,7 +23,8 @@ returns : tie.Need-returns
 unfolding raise
 returns c =
     let b = c .before .before .before .before .before in
-    rw (field w64 (b .args .s .«high_n») (omega arith), field w64 (b .args .s .«high_d») (omega arith), toZ-ofZ (b .fits .n), toZ-ofZ (b .fits .d)) (rw (sym (said (c .before .before)) ∙ c .before .if1 .taken))
+    rw (field w64 (b .args .s .«high_n») (omega arith), field w64 (b .args .s .«high_d») (omega arith), toZ-ofZ (b .fits .n), toZ-ofZ (b .fits .d))
+    (rw (sym (said (c .before .before)) ∙ c .before .if1 .taken))
 
 returns-2 : tie.Need-returns-2
 unfolding raise

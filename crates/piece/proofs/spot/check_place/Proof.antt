@@ -1,8 +1,9 @@
 -- `spot::check_place` finds what the checks say. Assumes nothing.
 use Rattle.piece.proofs.Finds.{place-finds}
-use Rattle.piece.proofs.Decide.{none-found, first-found}
+use Rattle.whole.proofs.Decide.{none-found}
+use Rattle.rules.proofs.Checks.{first-found}
 use Rattle.piece.specs.Place.{pt}
-use Rattle.piece.specs.Decide.{Seeks}
+use Rattle.whole.specs.Decide.{Seeks}
 use Rattle.rules.specs.Place.{pointNumber, placeChecks}
 use mir.Facts.{toZ-ofZ}
 use native.Mathlib.Omega.{arith}
@@ -32,7 +33,9 @@ check-footprint-requires : tie.Need-check-footprint-requires
 check-footprint-requires c κs = search needs
 
 returns-2 : tie.Need-returns-2
-returns-2 c = place-finds (pt (c .before .before .before .args .x) (c .before .before .before .args .y)) (c .before .before .before .args .l .now) (c .check-footprint .result) (none-found (own (c .before .before)) (omega arith)) (c .check-footprint .ensures)
+returns-2 c =
+    let b = c .before .before .before in
+    place-finds (pt (b .args .x) (b .args .y)) (b .args .l .now) (c .check-footprint .result) (none-found (own (c .before .before)) (omega arith)) (c .check-footprint .ensures)
 
 pub check-place-spec : {M : Type 1} → statement M
 check-place-spec =

@@ -13,26 +13,35 @@ use Rattle.piece.proofs.spot.corner_at.Tie as tie
 
 -- the scaled numbers
 value-x : (c : tie.After-scaled) → toZ w64 (ofZ w64 (c .scaled .result)) ≡ c .before .before .args .d *ℤ ring (c .before .before .args .l .now) .at (c .before .before .args .i) .x
-value-x c = read w64 (c .scaled .ok) (c .scaled .ensures ∙ rw (read w64 (c .before .x .ok) (c .before .x .ensures), toZ-ofZ (c .before .before .fits .d)))
+value-x c = read w64 (c .scaled .ok) (c .scaled .ensures ∙ rw (read w64 (c .before .at .ok) (c .before .at .ensures), toZ-ofZ (c .before .before .fits .d)))
 
-value-y : (c : tie.After-scaled2) → toZ w64 (ofZ w64 (c .scaled2 .result)) ≡ c .before .before .before .before .args .d *ℤ ring (c .before .before .before .before .args .l .now) .at (c .before .before .before .before .args .i) .y
-value-y c = read w64 (c .scaled2 .ok) (c .scaled2 .ensures ∙ rw (read w64 (c .before .y .ok) (c .before .y .ensures), toZ-ofZ (c .before .before .before .before .fits .d)))
+value-y : (c : tie.After-scaled2) → let s = c .before .before .before .before in toZ w64 (ofZ w64 (c .scaled2 .result)) ≡ s .args .d *ℤ ring (s .args .l .now) .at (s .args .i) .y
+value-y c = read w64 (c .scaled2 .ok) (c .scaled2 .ensures ∙ rw (read w64 (c .before .at2 .ok) (c .before .at2 .ensures), toZ-ofZ (c .before .before .before .before .fits .d)))
 
-x-requires : tie.Need-x-requires
-x-requires c κs = search needs
+mul-at : tie.Need-mul-at
+mul-at c = search needs
+
+at-requires : tie.Need-at-requires
+at-requires c κs = search needs
 
 scaled-requires : tie.Need-scaled-requires
-scaled-requires c κs = rw (read w64 (c .x .ok) (c .x .ensures), toZ-ofZ (c .before .fits .d)) (scaled-fits (c .before .args .d) _ (c .before .pre .0) (c .before .pre .1 .x))
+scaled-requires c κs = rw (read w64 (c .at .ok) (c .at .ensures), toZ-ofZ (c .before .fits .d)) (scaled-fits (c .before .args .d) _ (c .before .pre .0) (c .before .pre .1 .x))
 
-y-requires : tie.Need-y-requires
-y-requires c κs = search needs
+mul-at-2 : tie.Need-mul-at-2
+mul-at-2 c = search needs
+
+add-at : tie.Need-add-at
+add-at c = search needs
+
+at-requires-2 : tie.Need-at-requires-2
+at-requires-2 c κs = search needs
 
 scaled-requires-2 : tie.Need-scaled-requires-2
-scaled-requires-2 c κs = rw (read w64 (c .y .ok) (c .y .ensures), toZ-ofZ (c .before .before .before .fits .d)) (scaled-fits (c .before .before .before .args .d) _ (c .before .before .before .pre .0) (c .before .before .before .pre .1 .y))
+scaled-requires-2 c κs = let s = c .before .before .before in rw (read w64 (c .at2 .ok) (c .at2 .ensures), toZ-ofZ (s .fits .d)) (scaled-fits (s .args .d) _ (s .pre .0) (s .pre .1 .y))
 
 returns : tie.Need-returns
 returns c = rw (value-x (c .before .before), value-y c)
 
 pub corner-at-spec : {M : Type 1} → statement M
 corner-at-spec =
-    tie.close (tie.spec x-requires scaled-requires y-requires scaled-requires-2 returns)
+    tie.close (tie.spec mul-at at-requires scaled-requires mul-at-2 add-at at-requires-2 scaled-requires-2 returns)

@@ -8,9 +8,11 @@ use borrow.Author.Tests.{not-true, not-false}
 use Rattle.whole.proofs.Range.{read}
 use mir.Facts.{toZ-ofZ}
 use mir.Syntax.{w64}
+use mir.Val.{toZ, ofZ}
 use mathlib.Core.Bool.{Bool, true, false, _&&_}
 use mathlib.Core.Path.{_≡_, refl, sym, _∙_}
 use borrow.Author.Needs.{needs}
+use Rattle.piece.proofs.Steps.{side-given}
 use Rattle.piece.proofs.spot.is_on.Statement.{statement}
 use Rattle.piece.proofs.spot.is_on.Tie as tie
 
@@ -46,58 +48,70 @@ boxed p a b e f = go (inLine p a b) (inWidth p a b) (inHeight p a b) e f
     go true t u e f = rw (e, f)
     go false t u e f = refl
 
-wide : (c : tie.After-ranged) → c .ranged .result ≡ ranged (least (c .before .before .before .args .ax) (c .before .before .before .args .bx)) (c .before .before .before .args .px) (most (c .before .before .before .args .ax) (c .before .before .before .args .bx))
-wide c = c .ranged .ensures ∙ rw (read w64 (c .before .before .least .ok) (c .before .before .least .ensures), read w64 (c .before .most .ok) (c .before .most .ensures), toZ-ofZ (c .before .before .before .fits .ax), toZ-ofZ (c .before .before .before .fits .bx), toZ-ofZ (c .before .before .before .fits .px))
+-- the edge's ends, and the point
+abbrev A : tie.Start → Pt
+A s = pt (s .args .ax) (s .args .ay)
 
-high : (c : tie.After-ranged2) → c .ranged2 .result ≡ ranged (least (c .before .before .before .before .before .before .before .args .ay) (c .before .before .before .before .before .before .before .args .by)) (c .before .before .before .before .before .before .before .args .py) (most (c .before .before .before .before .before .before .before .args .ay) (c .before .before .before .before .before .before .before .args .by))
-high c = c .ranged2 .ensures ∙ rw (read w64 (c .before .before .least2 .ok) (c .before .before .least2 .ensures), read w64 (c .before .most2 .ok) (c .before .most2 .ensures), toZ-ofZ (c .before .before .before .before .before .before .before .fits .ay), toZ-ofZ (c .before .before .before .before .before .before .before .fits .by), toZ-ofZ (c .before .before .before .before .before .before .before .fits .py))
+abbrev B : tie.Start → Pt
+B s = pt (s .args .bx) (s .args .by)
 
-least-requires : tie.Need-least-requires
-least-requires c κs = search needs
+abbrev P : tie.Start → Pt
+P s = pt (s .args .px) (s .args .py)
 
-most-requires : tie.Need-most-requires
-most-requires c κs = search needs
+-- what the tests of the box say
+wide : (c : tie.After-ranged) → let s = c .before .before .before in c .ranged .result ≡ inWidth (P s) (A s) (B s)
+wide c =
+    let m = c .before in
+    let l = m .before in
+    let f = l .before .fits in
+    c .ranged .ensures ∙ rw (read w64 (l .least .ok) (l .least .ensures), read w64 (m .most .ok) (m .most .ensures), toZ-ofZ (f .ax), toZ-ofZ (f .bx), toZ-ofZ (f .px))
 
-ranged-requires : tie.Need-ranged-requires
-ranged-requires c κs = search needs
+abbrev start2 : tie.After-ranged2 → tie.Start
+start2 c = c .before .before .before .before .before .before .before
+
+high : (c : tie.After-ranged2) → c .ranged2 .result ≡ inHeight (P (start2 c)) (A (start2 c)) (B (start2 c))
+high c =
+    let m = c .before in
+    let l = m .before in
+    let f = start2 c .fits in
+    c .ranged2 .ensures ∙ rw (read w64 (l .least2 .ok) (l .least2 .ensures), read w64 (m .most2 .ok) (m .most2 .ensures), toZ-ofZ (f .ay), toZ-ofZ (f .by), toZ-ofZ (f .py))
+
+-- the side, read back
+the-side : (c : tie.After-side) → let s = start2 (c .before .before) in toZ w64 (ofZ w64 (c .side .result)) ≡ sideOf (A s) (B s) (P s)
+the-side c =
+    let f = start2 (c .before .before) .fits in
+    read w64 (c .side .ok) (side-given (f .ax) (f .ay) (f .bx) (f .by) (f .px) (f .py) (c .side .ensures))
 
 returns : tie.Need-returns
-returns c = sym (not-wide (pt (c .before .before .before .before .args .px) (c .before .before .before .before .args .py)) (pt (c .before .before .before .before .args .ax) (c .before .before .before .before .args .ay)) (pt (c .before .before .before .before .args .bx) (c .before .before .before .before .args .by)) (sym (wide (c .before)) ∙ not-true _ (c .if1 .taken)))
-
-least-requires-2 : tie.Need-least-requires-2
-least-requires-2 c κs = search needs
-
-most-requires-2 : tie.Need-most-requires-2
-most-requires-2 c κs = search needs
-
-ranged-requires-2 : tie.Need-ranged-requires-2
-ranged-requires-2 c κs = search needs
+returns c =
+    let s = c .before .before .before .before in
+    sym (not-wide (P s) (A s) (B s) (sym (wide (c .before)) ∙ not-true _ (c .if1 .taken)))
 
 returns-2 : tie.Need-returns-2
-returns-2 c = sym (not-high (pt (c .before .before .before .before .before .before .before .before .args .px) (c .before .before .before .before .before .before .before .before .args .py)) (pt (c .before .before .before .before .before .before .before .before .args .ax) (c .before .before .before .before .before .before .before .before .args .ay)) (pt (c .before .before .before .before .before .before .before .before .args .bx) (c .before .before .before .before .before .before .before .before .args .by)) (sym (high (c .before)) ∙ not-true _ (c .if2 .taken)))
-
-side-requires : tie.Need-side-requires
-side-requires c κs = search needs
-
-ranged-requires-3 : tie.Need-ranged-requires-3
-ranged-requires-3 c κs = search needs
+returns-2 c =
+    let s = start2 (c .before) in
+    sym (not-high (P s) (A s) (B s) (sym (high (c .before)) ∙ not-true _ (c .if2 .taken)))
 
 returns-3 : tie.Need-returns-3
-returns-3 c = c .ranged3 .ensures
-    ∙ rw (read w64 (c .before .side .ok) (c .before .side .ensures), toZ-ofZ (c .before .before .before .before .before .before .before .before .before .before .fits .ax), toZ-ofZ (c .before .before .before .before .before .before .before .before .before .before .fits .ay), toZ-ofZ (c .before .before .before .before .before .before .before .before .before .before .fits .bx), toZ-ofZ (c .before .before .before .before .before .before .before .before .before .before .fits .by), toZ-ofZ (c .before .before .before .before .before .before .before .before .before .before .fits .px), toZ-ofZ (c .before .before .before .before .before .before .before .before .before .before .fits .py)) (sym (boxed (pt (c .before .before .before .before .before .before .before .before .before .before .args .px) (c .before .before .before .before .before .before .before .before .before .before .args .py)) (pt (c .before .before .before .before .before .before .before .before .before .before .args .ax) (c .before .before .before .before .before .before .before .before .before .before .args .ay)) (pt (c .before .before .before .before .before .before .before .before .before .before .args .bx) (c .before .before .before .before .before .before .before .before .before .before .args .by)) (sym (wide (c .before .before .before .before .before .before .before)) ∙ not-false _ (c .before .before .before .before .before .before .if1 .left)) (sym (high (c .before .before .before)) ∙ not-false _ (c .before .before .if2 .left))))
+returns-3 c =
+    let d = c .before .before .before in
+    let s = start2 d in
+    let e = d .before .before .before .before in
+    let in-box = boxed (P s) (A s) (B s) (sym (wide e) ∙ not-false _ (d .before .before .before .if1 .left)) (sym (high d) ∙ not-false _ (c .before .before .if2 .left)) in
+    c .ranged3 .ensures ∙ rw (the-side (c .before)) (sym in-box)
 
 pub is-on-spec : {M : Type 1} → statement M
 is-on-spec =
     tie.close
     (tie.spec
-    least-requires
-    most-requires
-    ranged-requires
+    (λ c κs. search needs)
+    (λ c κs. search needs)
+    (λ c κs. search needs)
     returns
-    least-requires-2
-    most-requires-2
-    ranged-requires-2
+    (λ c κs. search needs)
+    (λ c κs. search needs)
+    (λ c κs. search needs)
     returns-2
-    side-requires
-    ranged-requires-3
+    (λ c κs. search needs)
+    (λ c κs. search needs)
     returns-3)

@@ -1,10 +1,11 @@
 -- `spot::place_at` computes the place. Assumes nothing.
+use Rattle.footprint.proofs.Back.{around-next}
 use Rattle.piece.proofs.Scan.{Scan, scan-none, scan-step, on-place, in-place, out-place}
-use Rattle.piece.proofs.Outline.{size-of}
+use Rattle.footprint.proofs.Outline.{size-of}
 use Rattle.piece.proofs.Steps.{Far, side-steps, scaled-wide}
 use Rattle.piece.specs.Place.{pt, ptOf, Near}
-use Rattle.piece.specs.Shape.{Corner}
-use Rattle.piece.specs.Steps.{SideSteps}
+use Rattle.footprint.specs.Shape.{Corner}
+use Rattle.footprint.specs.Steps.{SideSteps}
 use Rattle.piece.specs.declared.spot.Point.{Point}
 use Rattle.decide.specs.Touch.{isOn, over}
 use Rattle.decide.specs.Crossing.{crosses}
@@ -61,20 +62,28 @@ corner s = s .pre .1 .1
 size : (s : tie.Start Inv-loop μ-loop) → s .args .n ≡ ring (s .args .l .now) .size
 size s = size-of (s .pre .1 .0)
 
+-- the number of the turn's second corner
+next-is : (c : tie.After-around Inv-loop μ-loop) → c .around .result ≡ next (c .before .before .before .before .args .n) (c .before .before .loop .i)
+next-is c = c .around .ensures ∙ around-next _ _
+
 -- the ends of the turn's edge
 abbrev Ends : tie.After-struct-told4 Inv-loop μ-loop → Type 0
 Ends c =
     let e = c .before .before .before .before in
     let g = e .before .before .before .loop in
     let s = e .before .before .before .before .before in
-    (pt (toZ w64 (ofZ w64 (g .a .x))) (toZ w64 (ofZ w64 (g .a .y))) ≡ from (ringOf s) (g .i)) × (pt (toZ w64 (ofZ w64 (e .corner-at2 .result .x))) (toZ w64 (ofZ w64 (e .corner-at2 .result .y))) ≡ to (ringOf s) (g .i))
+    (pt (toZ w64 (ofZ w64 (g .a .x))) (toZ w64 (ofZ w64 (g .a .y))) ≡ from (ringOf s) (g .i)) ×
+    (pt (toZ w64 (ofZ w64 (e .corner-at2 .result .x))) (toZ w64 (ofZ w64 (e .corner-at2 .result .y))) ≡ to (ringOf s) (g .i))
 
 ends : (c : tie.After-struct-told4 Inv-loop μ-loop) → Ends c
 ends c =
     let e = c .before .before .before .before in
     let g = e .before .before .before .loop in
-    let s = e .before .before .before .before .before in
-    (rw (field w64 (g .a .x) (omega arith), field w64 (g .a .y) (omega arith)) (g .inv .here (e .before .before .loop-test .taken)), rw (field w64 (e .corner-at2 .result .x) (omega arith), field w64 (e .corner-at2 .result .y) (omega arith)) (e .corner-at2 .ensures ∙ ap (λ (k : ℕ). ringOf s .at k) (e .before .next .ensures ∙ ap (λ (n : ℕ). next n (g .i)) (size s))))
+    let s = e .before .before .before .before .before in (
+      rw (field w64 (g .a .x) (omega arith), field w64 (g .a .y) (omega arith)) (g .inv .here (e .before .before .loop-test .taken)),
+      rw (field w64 (e .corner-at2 .result .x) (omega arith), field w64 (e .corner-at2 .result .y) (omega arith))
+          (e .corner-at2 .ensures ∙ ap (λ (k : ℕ). ringOf s .at k) (next-is (e .before) ∙ ap (λ (n : ℕ). next n (g .i)) (size s))),
+    )
 
 corner-at-requires : tie.Need-corner-at-requires Inv-loop μ-loop
 corner-at-requires c κs = (near c .den, corner c 0 (let m = c .pre .1 .0 .corners .least in omega arith))
@@ -82,18 +91,22 @@ corner-at-requires c κs = (near c .den, corner c 0 (let m = c .pre .1 .0 .corne
 loop-holds : tie.Need-loop-holds Inv-loop μ-loop
 loop-holds c = record { scan = scan-none _ _ _; here = λ h. c .corner-at .ensures }
 
-next-requires : tie.Need-next-requires Inv-loop μ-loop
-next-requires c κs = c .loop-test .taken
+add-around : tie.Need-add-around Inv-loop μ-loop
+add-around c = let h = c .before .before .before .pre .1 .0 .corners .most in omega arith
+
+around-requires : tie.Need-around-requires Inv-loop μ-loop
+around-requires c κs = tt
 
 corner-at-requires-2 : tie.Need-corner-at-requires-2 Inv-loop μ-loop
 corner-at-requires-2 c κs = let s = c .before .before .before .before in
-    (near s .den, rw (c .next .ensures) (corner s _ (next-below _ _ (c .before .loop-test .taken))))
+    (near s .den, rw (next-is c) (corner s _ (next-below _ _ (c .before .loop-test .taken))))
 
 side-fits : (c : tie.After-struct-told4 Inv-loop μ-loop) →
     let e = c .before .before .before .before in
     let g = e .before .before .before .loop in
     let s = e .before .before .before .before .before in
-    SideSteps (toZ w64 (ofZ w64 (g .a .x))) (toZ w64 (ofZ w64 (g .a .y))) (toZ w64 (ofZ w64 (e .corner-at2 .result .x))) (toZ w64 (ofZ w64 (e .corner-at2 .result .y))) (toZ w64 (ofZ w64 (s .args .px))) (toZ w64 (ofZ w64 (s .args .py)))
+    SideSteps (toZ w64 (ofZ w64 (g .a .x))) (toZ w64 (ofZ w64 (g .a .y))) (toZ w64 (ofZ w64 (e .corner-at2 .result .x)))
+    (toZ w64 (ofZ w64 (e .corner-at2 .result .y))) (toZ w64 (ofZ w64 (s .args .px))) (toZ w64 (ofZ w64 (s .args .py)))
 side-fits c =
     let e = c .before .before .before .before in
     let s = e .before .before .before .before .before in
@@ -114,7 +127,8 @@ returns : tie.Need-returns Inv-loop μ-loop
 returns c =
     let e = c .before .before .before .before .before .before in
     let s = e .before .before .before .before .before in
-    rw (← (toZ-ofZ (s .fits .d)), ← (toZ-ofZ (s .fits .px)), ← (toZ-ofZ (s .fits .py))) (on-place _ _ (e .before .before .before .loop .i) (rw (← (size s)) (e .before .before .loop-test .taken)) (sym (said (c .before)) ∙ c .if1 .taken))
+    rw (← (toZ-ofZ (s .fits .d)), ← (toZ-ofZ (s .fits .px)), ← (toZ-ofZ (s .fits .py)))
+    (on-place _ _ (e .before .before .before .loop .i) (rw (← (size s)) (e .before .before .loop-test .taken)) (sym (said (c .before)) ∙ c .if1 .taken))
 
 is-counted-requires : tie.Need-is-counted-requires Inv-loop μ-loop
 is-counted-requires c κs = side-fits (c .before .before .before .before .before .before)
@@ -143,8 +157,10 @@ loop-again c =
     let g = e .before .before .before .loop in
     let s = e .before .before .before .before .before in
     record {
-      scan = rw (c .differ .ensures, counted (c .before)) (scan-step _ _ _ _ _ (e .before .before .loop-test .taken) (g .inv .scan) (sym (said (c .before .before .before .before .before .before .before)) ∙ c .before .before .before .before .before .before .if1 .left));
-      here = λ h. rw (add-one (g .i)) (e .corner-at2 .ensures ∙ ap (λ (j : ℕ). ringOf s .at j) (e .before .next .ensures ∙ next-inner _ _ (rw (add-one (g .i)) at h)));
+      scan = rw (c .differ .ensures, counted (c .before))
+          (scan-step _ _ _ _ _ (e .before .before .loop-test .taken) (g .inv .scan)
+          (sym (said (c .before .before .before .before .before .before .before)) ∙ c .before .before .before .before .before .before .if1 .left));
+      here = λ h. rw (add-one (g .i)) (e .corner-at2 .ensures ∙ ap (λ (j : ℕ). ringOf s .at j) (next-is (e .before) ∙ next-inner _ _ (rw (add-one (g .i)) at h)));
     }
 
 -- every edge passed
@@ -162,12 +178,14 @@ done c =
 returns-2 : tie.Need-returns-2 Inv-loop μ-loop
 returns-2 c =
     let s = c .before .before .before .before in
-    rw (← (toZ-ofZ (s .fits .d)), ← (toZ-ofZ (s .fits .px)), ← (toZ-ofZ (s .fits .py))) (in-place _ _ (subst (Scan (ringOf s) (pointOf s) (ring (s .args .l .now) .size) (ring (s .args .l .now) .size)) (c .if2 .taken) (done (c .before))))
+    rw (← (toZ-ofZ (s .fits .d)), ← (toZ-ofZ (s .fits .px)), ← (toZ-ofZ (s .fits .py)))
+    (in-place _ _ (subst (Scan (ringOf s) (pointOf s) (ring (s .args .l .now) .size) (ring (s .args .l .now) .size)) (c .if2 .taken) (done (c .before))))
 
 returns-3 : tie.Need-returns-3 Inv-loop μ-loop
 returns-3 c =
     let s = c .before .before .before .before in
-    rw (← (toZ-ofZ (s .fits .d)), ← (toZ-ofZ (s .fits .px)), ← (toZ-ofZ (s .fits .py))) (out-place _ _ (subst (Scan (ringOf s) (pointOf s) (ring (s .args .l .now) .size) (ring (s .args .l .now) .size)) (c .if2 .left) (done (c .before))))
+    rw (← (toZ-ofZ (s .fits .d)), ← (toZ-ofZ (s .fits .px)), ← (toZ-ofZ (s .fits .py)))
+    (out-place _ _ (subst (Scan (ringOf s) (pointOf s) (ring (s .args .l .now) .size) (ring (s .args .l .now) .size)) (c .if2 .left) (done (c .before))))
 
 pub place-at-spec : {M : Type 1} → statement M
 place-at-spec =
@@ -177,7 +195,8 @@ place-at-spec =
     μ-loop
     corner-at-requires
     loop-holds
-    next-requires
+    add-around
+    around-requires
     corner-at-requires-2
     is-on-requires
     returns

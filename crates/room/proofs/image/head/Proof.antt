@@ -27,9 +27,6 @@ returns-3 c = not-whole (now (c .before .before .before .before .args .image)) (
 slice-aggregate-read-header : tie.Need-slice-aggregate-read-header
 slice-aggregate-read-header c = sym (length-take-le 512 (now (c .before .before .before .before .before .args .image)) (c .before .before .if2 .left))
 
-read-header-requires : tie.Need-read-header-requires
-read-header-requires c κs = search needs
-
 -- what is known once the header is read
 abbrev image : tie.After-read-header → List ℕ
 image c = now (c .before .before .before .before .before .before .args .image)
@@ -44,33 +41,18 @@ says c = c .read-header .ensures
 told : (c : tie.After-read-header) (r : HeaderRead) → c .read-header .result ≡ r → HeaderSays (blockAt (image c) 0) r
 told c r e = subst (HeaderSays (blockAt (image c) 0)) e (says c)
 
-enum-known-x : tie.Need-enum-known-x
-enum-known-x c = search needs
-
-enum-known-pieces : tie.Need-enum-known-pieces
-enum-known-pieces c = search needs
-
-cast-count : tie.Need-cast-count
-cast-count c = search needs
-
-add-if4 : tie.Need-add-if4
-add-if4 c = search needs
-
-mul-if4 : tie.Need-mul-if4
-mul-if4 c = search needs
-
 returns-4 : tie.Need-returns-4
-returns-4 c = let d = c .before .before .before in no-header (image d) (whole d) (c .before .x .given .0 .0) (told d (NoHeader (c .before .x .given .0 .0)) (c .before .x .given .1))
+returns-4 c = let d = c .before .before .before in let x = c .before .x .given .0 .0 in no-header (image d) (whole d) x (told d (NoHeader x) (c .before .x .given .1))
 
 returns-5 : tie.Need-returns-5
 returns-5 c =
-    let d = c .before .before .before .before in
-    head-good (image d) (whole d) (c .before .before .pieces .given .0 .0) (told d (Count (c .before .before .pieces .given .0 .0)) (c .before .before .pieces .given .1)) (c .if4 .taken)
+    let p = c .before .before in let d = p .before .before in let n = p .pieces .given .0 .0 in
+    head-good (image d) (whole d) n (told d (Count n) (p .pieces .given .1)) (c .if4 .taken)
 
 returns-6 : tie.Need-returns-6
 returns-6 c =
-    let d = c .before .before .before .before in
-    head-bad (image d) (whole d) (c .before .before .pieces .given .0 .0) (told d (Count (c .before .before .pieces .given .0 .0)) (c .before .before .pieces .given .1)) (c .if4 .left)
+    let p = c .before .before in let d = p .before .before in let n = p .pieces .given .0 .0 in
+    head-bad (image d) (whole d) n (told d (Count n) (p .pieces .given .1)) (c .if4 .left)
 
 pub head-spec : {M : Type 1} → statement M
 head-spec =
@@ -80,12 +62,12 @@ head-spec =
     returns-2
     returns-3
     slice-aggregate-read-header
-    read-header-requires
-    enum-known-x
-    enum-known-pieces
-    cast-count
-    add-if4
-    mul-if4
+    (λ c κs. search needs)
+    (λ c. search needs)
+    (λ c. search needs)
+    (λ c. search needs)
+    (λ c. search needs)
+    (λ c. search needs)
     returns-4
     returns-5
     returns-6)

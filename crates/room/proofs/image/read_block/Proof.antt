@@ -19,17 +19,8 @@ mul-from c = let h = has-few _ _ (c .before .pre) in omega arith
 add-to : tie.Need-add-to
 add-to c = let h = has-few _ _ (c .before .pre) in omega arith
 
-sub-read-piece : tie.Need-sub-read-piece
-sub-read-piece c = search needs
-
-part-read-piece-start : tie.Need-part-read-piece-start
-part-read-piece-start c = search needs
-
 part-read-piece-end : tie.Need-part-read-piece-end
 part-read-piece-end c = let h = has-long _ _ (c .before .pre) in omega arith
-
-read-piece-requires : tie.Need-read-piece-requires
-read-piece-requires c κs = search needs
 
 returns : tie.Need-returns
 returns c =
@@ -43,8 +34,8 @@ read-block-spec =
     add-from
     mul-from
     add-to
-    sub-read-piece
-    part-read-piece-start
+    (λ c. search needs)
+    (λ c. search needs)
     part-read-piece-end
-    read-piece-requires
+    (λ c κs. search needs)
     returns)

@@ -6,6 +6,7 @@ use native.Mathlib.Omega.{arith}
 use denote.Ref.{now}
 use Rattle.piece.specs.declared.motion.Verdict.{Verdict}
 use Rattle.piece.specs.declared.motion.Verdict.the-variants.{Clear, Mark, Refused}
+use Rattle.rules.specs.Reach.{Run}
 use Rattle.piece.specs.Numbers.{runOf}
 use Rattle.block.specs.Layout.{blockAt}
 use Rattle.block.specs.Verdicts.{VerdictInSays}
@@ -24,46 +25,35 @@ mul-from c = let h = has-few _ _ (c .before .pre .1) in omega arith
 add-to : tie.Need-add-to
 add-to c = let h = has-few _ _ (c .before .pre .1) in omega arith
 
-sub-verdict-in : tie.Need-sub-verdict-in
-sub-verdict-in c = search needs
-
-part-verdict-in-start : tie.Need-part-verdict-in-start
-part-verdict-in-start c = search needs
-
 part-verdict-in-end : tie.Need-part-verdict-in-end
 part-verdict-in-end c = let h = has-long _ _ (c .before .pre .1) in omega arith
 
-verdict-in-requires : tie.Need-verdict-in-requires
-verdict-in-requires c κs = search needs
+-- ---- once the verdict is had
+abbrev run : tie.After-verdict-in → Run
+run c = runOf (c .before .before .before .args .run)
+
+abbrev image : tie.After-verdict-in → List ℕ
+image c = now (c .before .before .before .args .image)
+
+abbrev i : tie.After-verdict-in → ℕ
+i c = c .before .before .before .args .i
 
 -- the verdict on the block, where it is known
-told : (c : tie.After-verdict-in) (v : Verdict) → c .verdict-in .result ≡ v → VerdictInSays (runOf (c .before .before .before .args .run)) (blockAt (now (c .before .before .before .args .image)) (suc (c .before .before .before .args .i))) v
+told : (c : tie.After-verdict-in) (v : Verdict) → c .verdict-in .result ≡ v → VerdictInSays (run c) (blockAt (image c) (suc (i c))) v
 told c v e =
-    let a = c .before .before .before .args in
-    subst (VerdictInSays (runOf (a .run)) (blockAt (now (a .image)) (suc (a .i)))) e
-    (subst (λ (l : List ℕ). VerdictInSays (runOf (a .run)) l (c .verdict-in .result)) (part-is (now (a .image)) (a .i)) (c .verdict-in .ensures))
-
-enum-told : tie.Need-enum-told
-enum-told c = search needs
-
-enum-known-k : tie.Need-enum-known-k
-enum-known-k c = search needs
-
-enum-known-x : tie.Need-enum-known-x
-enum-known-x c = search needs
+    subst (VerdictInSays (run c) (blockAt (image c) (suc (i c)))) e
+    (subst (λ (l : List ℕ). VerdictInSays (run c) l (c .verdict-in .result)) (part-is (image c) (i c)) (c .verdict-in .ensures))
 
 returns : tie.Need-returns
 returns c = told (c .before .before) Clear (c .enum-told .given .1)
 
 returns-2 : tie.Need-returns-2
-returns-2 c =
-    let d = c .before .before .before in let a = d .before .before .before .args in let k = c .before .k .given .0 .0 in
-    code-mark (runOf (a .run)) (now (a .image)) (a .i) k (told d (Mark k) (c .before .k .given .1))
+returns-2 c = let d = c .before .before .before in let k = c .before .k .given .0 .0 in code-mark (run d) (image d) (i d) k (told d (Mark k) (c .before .k .given .1))
 
 returns-3 : tie.Need-returns-3
 returns-3 c =
-    let d = c .before .before .before in let s = d .before .before .before in let a = s .args in let x = c .before .x .given .0 .0 in
-    code-none (runOf (a .run)) (now (a .image)) (a .i) (s .pre .0) x (told d (Refused x) (c .before .x .given .1))
+    let d = c .before .before .before in let pre = d .before .before .before .pre in let x = c .before .x .given .0 .0 in
+    code-none (run d) (image d) (i d) (pre .0) (pre .1) x (told d (Refused x) (c .before .x .given .1))
 
 pub code-of-spec : {M : Type 1} → statement M
 code-of-spec =
@@ -72,13 +62,13 @@ code-of-spec =
     add-from
     mul-from
     add-to
-    sub-verdict-in
-    part-verdict-in-start
+    (λ c. search needs)
+    (λ c. search needs)
     part-verdict-in-end
-    verdict-in-requires
-    enum-told
-    enum-known-k
-    enum-known-x
+    (λ c κs. search needs)
+    (λ c. search needs)
+    (λ c. search needs)
+    (λ c. search needs)
     returns
     returns-2
     returns-3)

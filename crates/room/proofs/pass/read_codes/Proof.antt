@@ -20,9 +20,7 @@ enum-known-n : tie.Need-enum-known-n
 enum-known-n c = search needs
 
 codes-of-requires : tie.Need-codes-of-requires
-codes-of-requires c κs =
-    let d = c .before .before .before in let h = told d (Count (c .before .n .given .0 .0)) (c .before .n .given .1) in
-    (d .before .before .pre, h .0, h .1)
+codes-of-requires c κs = let d = c .before .before .before in (d .before .before .pre, told d (Count (c .before .n .given .0 .0)) (c .before .n .given .1))
 
 enum-known-x : tie.Need-enum-known-x
 enum-known-x c = search needs

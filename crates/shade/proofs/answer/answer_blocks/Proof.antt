@@ -4,6 +4,7 @@ use native.Mathlib.Omega.{arith}
 use denote.Ref.{now}
 use lib.ListN.{length-take}
 use Rattle.shade.specs.Text.{badRun}
+use Rattle.shade.proofs.Found.{whole}
 use borrow.Author.Needs.{needs}
 use Rattle.shade.proofs.answer.answer_blocks.Statement.{statement}
 use Rattle.shade.proofs.answer.answer_blocks.Tie as tie
@@ -11,48 +12,29 @@ use Rattle.shade.proofs.answer.answer_blocks.Tie as tie
 slice-aggregate-read-run : tie.Need-slice-aggregate-read-run
 slice-aggregate-read-run c = omega (arith, length-take 512 (now (c .before .before .before .args .input)))
 
-read-run-requires : tie.Need-read-run-requires
-read-run-requires c κs = search needs
-
-enum-known-read : tie.Need-enum-known-read
-enum-known-read c = search needs
-
-run-line-requires : tie.Need-run-line-requires
-run-line-requires c κs = search needs
-
-enum-known-read-2 : tie.Need-enum-known-read-2
-enum-known-read-2 c = search needs
-
 answer-room-requires : tie.Need-answer-room-requires
 answer-room-requires c κs =
     let e = c .before .before .read2 .given .1 in let h = rw e at (c .before .before .before .before .read-run .ensures) in
     (search needs, c .before .before .before .before .before .before .before .before .pre .1, h)
 
-same-length : tie.Need-same-length
-same-length c = search needs
-
 returns : tie.Need-returns
 returns c =
-    let e = c .before .before .before .before .before .read .given .1 in
-    record { text = _; answers = badRun (c .before .before .before .before .before .before .before .before .before .before .before .pre .1) _ (rw e at (c .before .before .before .before .before .before .before .read-run .ensures)) refl; puts = c .before .before .run-line .ensures }
-
-same-length-2 : tie.Need-same-length-2
-same-length-2 c = search needs
-
-returns-2 : tie.Need-returns-2
-returns-2 c = search needs
+    let called = c .before .before .before .before .before .before .before in
+    let f = rw (c .before .before .before .before .before .read .given .1) at (called .read-run .ensures) in
+    let p = c .before .before .run-line .ensures .0 in
+    record { text = _; answers = badRun (called .before .before .before .before .pre .1) _ f refl; room = whole p (search needs) (search needs); puts = p }
 
 pub answer-blocks-spec : {M : Type 1} → statement M
 answer-blocks-spec =
     tie.close
     (tie.spec
     slice-aggregate-read-run
-    read-run-requires
-    enum-known-read
-    run-line-requires
-    enum-known-read-2
+    (λ c κs. search needs)
+    (λ c. search needs)
+    (λ c κs. search needs)
+    (λ c. search needs)
     answer-room-requires
-    same-length
+    (λ c. search needs)
     returns
-    same-length-2
-    returns-2)
+    (λ c. search needs)
+    (λ c. search needs))

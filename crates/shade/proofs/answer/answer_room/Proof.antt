@@ -3,85 +3,61 @@ use mathlib.Core.Path.{refl}
 use native.Mathlib.Omega.{arith}
 use denote.Ref.{now}
 use Rattle.shade.specs.Text.{badRoom, verdicts}
-use Rattle.shade.proofs.Found.{rest, room-fault, few, printed}
+use Rattle.shade.proofs.Found.{rest, room-fault, few, printed, whole}
 use Rattle.piece.specs.Numbers.{runOf}
 use borrow.Author.Needs.{needs}
 use Rattle.shade.proofs.answer.answer_room.Statement.{statement}
 use Rattle.shade.proofs.answer.answer_room.Tie as tie
 
-sub-verdicts : tie.Need-sub-verdicts
-sub-verdicts c = search needs
-
-part-verdicts-start : tie.Need-part-verdicts-start
-part-verdicts-start c = search needs
-
-part-verdicts-end : tie.Need-part-verdicts-end
-part-verdicts-end c = search needs
-
-slice-aggregate-verdicts : tie.Need-slice-aggregate-verdicts
-slice-aggregate-verdicts c = search needs
-
-verdicts-requires : tie.Need-verdicts-requires
-verdicts-requires c κs = search needs
-
-enum-known-counted : tie.Need-enum-known-counted
-enum-known-counted c = search needs
-
-room-line-requires : tie.Need-room-line-requires
-room-line-requires c κs = search needs
-
-enum-known-counted-2 : tie.Need-enum-known-counted-2
-enum-known-counted-2 c = search needs
-
-slice-aggregate-put-page : tie.Need-slice-aggregate-put-page
-slice-aggregate-put-page c = search needs
-
 put-page-requires : tie.Need-put-page-requires
 put-page-requires c κs =
-    let start = c .before .before .before .before .before .before .before .before .before .before .before in let e = c .before .before .before .counted2 .given .1 in let v = c .before .before .before .before .before .before .verdicts .ensures in let w = rw e at v in
-    let h = few (runOf (start .args .run)) _ _ _ _ w in (omega arith, omega (arith, w .stays .size))
-
-same-length : tie.Need-same-length
-same-length c = search needs
+    let called = c .before .before .before .before .before .before in
+    let start = called .before .before .before .before .before in
+    let w = rw (c .before .before .before .counted2 .given .1) at (called .verdicts .ensures) in
+    omega (arith, few (runOf (start .args .run)) _ _ _ _ w, w .stays .size)
 
 returns : tie.Need-returns
 returns c =
-    let start = c .before .before .before .before .before .before .before .before .before .before .before .before .before in let e = c .before .before .before .before .before .counted .given .1 in let v = c .before .before .before .before .before .before .before .before .verdicts .ensures in let w = rw e at v in
-    let x = rest (now (start .args .input)) in
+    let called = c .before .before .before .before .before .before .before .before in
+    let start = called .before .before .before .before .before in
+    let run = runOf (start .args .run) in
+    let w = rw (c .before .before .before .before .before .counted .given .1) at (called .verdicts .ensures) in
+    let f = rw (rest (now (start .args .input))) at (room-fault run _ _ (start .pre .2 .good) (search needs) _ (w .0)) in
     record {
       text = _;
-      answers = badRoom (start .pre .1) (runOf (start .args .run)) (start .pre .2) _ (rw x at (room-fault (runOf (start .args .run)) _ _ (start .pre .2 .good) (search needs) _ (w .0))) refl;
-      puts = c .before .before .room-line .ensures;
+      answers = badRoom (start .pre .1) run (start .pre .2) _ f refl;
+      room = whole (c .before .before .room-line .ensures .0) (omega (arith, c .before .before .room-line .ensures .1)) (search needs);
+      puts = c .before .before .room-line .ensures .0;
     }
-
-same-length-2 : tie.Need-same-length-2
-same-length-2 c = search needs
 
 returns-2 : tie.Need-returns-2
 returns-2 c =
-    let start = c .before .before .before .before .before .before .before .before .before .before .before .before .before .before in let e = c .before .before .before .before .before .before .counted2 .given .1 in let v = c .before .before .before .before .before .before .before .before .before .verdicts .ensures in let w = rw e at v in
-    let x = rest (now (start .args .input)) in
+    let called = c .before .before .before .before .before .before .before .before .before in
+    let start = called .before .before .before .before .before in
+    let run = runOf (start .args .run) in let input = now (start .args .input) in
+    let w = rw (c .before .before .before .before .before .before .counted2 .given .1) at (called .verdicts .ensures) in
     record {
       text = _;
-      answers = verdicts (start .pre .1) (runOf (start .args .run)) (start .pre .2) (printed (runOf (start .args .run)) (now (start .args .input)) _ _ _ (rw x at w));
-      puts = c .before .before .put-page .ensures;
+      answers = verdicts (start .pre .1) run (start .pre .2) (printed run input _ _ _ (rw (rest input) at w));
+      room = whole (c .before .before .put-page .ensures .0) (omega (arith, c .before .before .put-page .ensures .1, few run _ _ _ _ w)) (search needs);
+      puts = c .before .before .put-page .ensures .0;
     }
 
 pub answer-room-spec : {M : Type 1} → statement M
 answer-room-spec =
     tie.close
     (tie.spec
-    sub-verdicts
-    part-verdicts-start
-    part-verdicts-end
-    slice-aggregate-verdicts
-    verdicts-requires
-    enum-known-counted
-    room-line-requires
-    enum-known-counted-2
-    slice-aggregate-put-page
+    (λ c. search needs)
+    (λ c. search needs)
+    (λ c. search needs)
+    (λ c. search needs)
+    (λ c κs. search needs)
+    (λ c. search needs)
+    (λ c κs. search needs)
+    (λ c. search needs)
+    (λ c. search needs)
     put-page-requires
-    same-length
+    (λ c. search needs)
     returns
-    same-length-2
+    (λ c. search needs)
     returns-2)

@@ -6,8 +6,8 @@ use native.Mathlib.Numerals.{add-one}
 use borrow.Author.Needs.{needs}
 use denote.Ref.{now}
 use Rattle.shade.specs.Text.{pieceLines}
-use Rattle.shade.specs.Put.{Puts}
-use Rattle.shade.proofs.Put.{none, then}
+use Rattle.print.specs.Put.{Puts}
+use Rattle.print.proofs.Put.{none, then}
 use Rattle.shade.proofs.line.piece_lines.Statement.{statement}
 use Rattle.shade.proofs.line.piece_lines.Tie as tie
 
@@ -19,22 +19,7 @@ abbrev μ-loop : tie.MeasureT-loop
 
 loop-holds : tie.Need-loop-holds Inv-loop μ-loop
 unfolding pieceLines
-loop-holds c = let a = c .before .before .args in (omega arith, omega arith, none (now (a .out)) (a .at))
-
-mul-piece-line : tie.Need-mul-piece-line Inv-loop μ-loop
-mul-piece-line c = search needs
-
-shared-slice-read-piece-line : tie.Need-shared-slice-read-piece-line Inv-loop μ-loop
-shared-slice-read-piece-line c = search needs
-
-piece-line-requires : tie.Need-piece-line-requires Inv-loop μ-loop
-piece-line-requires c κs = search needs
-
-add-i : tie.Need-add-i Inv-loop μ-loop
-add-i c = search needs
-
-loop-less : tie.Need-loop-less Inv-loop μ-loop
-loop-less c = search needs
+loop-holds c = let a = c .before .before .args in (omega arith, omega arith, none (now (a .out)) (a .at) (omega arith))
 
 loop-again : tie.Need-loop-again Inv-loop μ-loop
 unfolding pieceLines
@@ -42,12 +27,9 @@ loop-again c =
     let at = c .before .before .before .before .before .before in let line = c .before .before .piece-line .ensures in
     (omega arith, omega (arith, line .1), rw (add-one (at .loop .i)) (then (at .loop .inv .2) (line .0)))
 
-same-length : tie.Need-same-length Inv-loop μ-loop
-same-length c = search needs
-
 returns : tie.Need-returns Inv-loop μ-loop
 returns c =
-    let at = c .before in let e : at .loop .i ≡ at .before .before .before .args .n = omega arith in rw e at (at .loop .inv .2)
+    let at = c .before in let e : at .loop .i ≡ at .before .before .before .args .n = omega arith in (rw e at (at .loop .inv .2), omega arith)
 
 pub piece-lines-spec : {M : Type 1} → statement M
 piece-lines-spec =
@@ -56,11 +38,11 @@ piece-lines-spec =
     Inv-loop
     μ-loop
     loop-holds
-    mul-piece-line
-    shared-slice-read-piece-line
-    piece-line-requires
-    add-i
-    loop-less
+    (λ c. search needs)
+    (λ c. search needs)
+    (λ c κs. search needs)
+    (λ c. search needs)
+    (λ c. search needs)
     loop-again
-    same-length
+    (λ c. search needs)
     returns)

@@ -1,0 +1,32 @@
+// The numbers of the layout, each once; specs/Layout.antt says the same.
+ghost use mathlib.Core.Path.{_≡_};
+ghost use Prim.Native.Nat.{_<_};
+ghost use lib.ListN.{getD};
+ghost use Rattle.block.specs.Layout.{name};
+
+// Every block has so many bytes.
+pub(crate) const SIZE: usize = 512;
+// Its check stands after so many, in two bytes; the last byte.
+pub(crate) const BODY: usize = 510;
+
+pub(crate) const LAST: usize = 511;
+
+// 52 4F 4F 4D
+pub(crate) const NAME: [u8; 4] = [0x52, 0x4F, 0x4F, 0x4D];
+
+pub(crate) const EDITION: u8 = 1;
+// The most pieces of a room.
+pub(crate) const MOST: u32 = 126;
+
+// Byte 0 of a piece block, and of a run block.
+pub(crate) const PIECE: u8 = 1;
+
+pub(crate) const RUN: u8 = 2;
+
+// A byte of the name.
+pub(crate) fn letter(i: usize) -> u8
+    requires { ⌜ i < 4 ⌝ }
+    ensures { λ r. ⌜ r ≡ getD name i 0 ⌝ }
+{
+    NAME[i]
+}

@@ -1,0 +1,17 @@
+-- `number::least` is what it says. Assumes nothing.
+use mir.Facts.{toZ-ofZ}
+use Rattle.footprint.proofs.number.least.Statement.{statement}
+use Rattle.footprint.proofs.number.least.Tie as tie
+
+returns : tie.Need-returns
+returns c = let f = c .before .fits in
+    let e = rw (toZ-ofZ (f .a), toZ-ofZ (f .b)) at (c .if1 .taken) in
+    rw (toZ-ofZ (f .a), e)
+
+returns-2 : tie.Need-returns-2
+returns-2 c = let f = c .before .fits in
+    let e = rw (toZ-ofZ (f .a), toZ-ofZ (f .b)) at (c .if1 .left) in
+    rw (toZ-ofZ (f .b), e)
+
+pub least-spec : {M : Type 1} → statement M
+least-spec = tie.close (tie.spec returns returns-2)
