@@ -1,41 +1,34 @@
 /*
- * The exact shadow baker: its calls for C.
+ * The exact shadow baker: its calls for C and C++.
  *
- * Link with libbaker.a (x86-64 Linux). Every call takes every number, ends, keeps no state and
- * allocates nothing; its contract stands beside its code in crates/baker/src, and crates/baker/proofs
- * proves that no other answer would meet it.
+ * The library is target/staticlib/libbaker.a (`rt staticlib baker` makes it), for x86-64 Linux. A program is
+ * compiled and linked by
+ *
+ *     cc -Iinclude program.c target/staticlib/libbaker.a
+ *
+ * It asks for two symbols, memcpy and memset, and for no other library. Every call takes every number, ends,
+ * keeps no state and allocates nothing; threads may call at once where none lends what another one lends for
+ * writing. The contract of a call stands beside its code in crates/baker/src, and crates/baker/proofs proves
+ * that no other answer would meet it. docs/RULES.md has the rules in words, with the layout of each block.
  *
  * Units: grid units, grid units per tick, ticks; a mark is in 1/256 ticks.
  *
- * Lists: a pointer and then the number of elements. Corners are x, y, x, y ... A pointer is never
- * null, not even where its length is 0, and what is lent for writing overlaps nothing else that is
- * lent in the same call.
+ * Lists: a pointer and then the number of elements, not of bytes. Corners are x, y, x, y ...
+ *   A pointer is never null, not even where its length is 0, and aligned as its type is in C: int32_t, uint32_t
+ *   and float at multiples of 4, bytes anywhere.
+ *   What is lent for writing overlaps nothing else that is lent in the same call.
+ *   A block or a list that is only written (the parameters `block` of the writers, `numbers`, `list`, `grid`,
+ *   `floor` that are not const) may be uninitialised: no answer depends on what it held. Elements that the call
+ *   does not write stay as they were. A book is read, and an empty one is all zero.
  *
  * Answers: one uint64_t.
+ *   Test BAKER_REFUSED first. A refusal has a value too, 0 where it names no place, which looks like good,
+ *   outside, the end and mark 0.
  *   Not refused: bit 63 is clear and the value stands in the low 32 bits, as said at each call
  *   (baker_ask sets bit 32 besides).
  *   Refused: bit 63 is set, bits 48 to 55 have the number, bits 40 to 47 the block, bits 16 to 39 the
  *   place a, bits 0 to 15 the place b. The block is i + 1 where piece block i of a room is refused,
  *   otherwise 0. Places that are not named are 0. Nothing that was lent changes.
- *
- *   number  given when                                              a, b
- *    1      the length of a room, a book, a block or a file is wrong
- *    2      the check of a block is wrong
- *    3      wrong kind, name, edition, a piece count over 126,      a: the first such byte
- *           or an unnamed byte that is not zero
- *    4      a number out of reach, or bottom above top              a: its byte offset in the block
- *    5      not 3 to 64 corners, or an odd list
- *    6      a corner equals the next                                a: the first such corner
- *    7      two neighbouring edges fold                             a: the first corner where they do
- *    8      two edges meet                                          a, b: the first pair, a below b
- *    9      the footprint is clockwise
- *   10      the lent list is too short
- *   11      an exported number is not a number                      a: corner, b: 0 for x, 1 for y
- *   12      an exported number, or one of a file, is out of reach   as 11
- *   13      an exported number, or one of a file, is off the grid   as 11
- *   14      a line of a file is none of those that are read         a: the line, from 1
- *   15      an index in a face names no v above the face            a: the line
- *   16      a file has a second face, or none                       a: the line, 0 for none
  */
 #ifndef BAKER_H
 #define BAKER_H
@@ -47,16 +40,80 @@
 extern "C" {
 #endif
 
+/* 2.0.0 of this header: 10000 * major + 100 * minor + patch. */
+#define BAKER_VERSION 20000
+
+/* ---- answers ---- */
+
 #define BAKER_REFUSED(answer) ((int)((uint64_t)(answer) >> 63))
+
+/* Of an answer that is not refused. */
+#define BAKER_VALUE(answer) ((uint32_t)((uint64_t)(answer) & 0xFFFFFFFF))
+#define BAKER_REMEMBERED(answer) ((int)((uint64_t)(answer) >> 32 & 1))
+
+/* Of a refused one. */
 #define BAKER_NUMBER(answer) ((unsigned)((uint64_t)(answer) >> 48 & 0xFF))
 #define BAKER_BLOCK(answer) ((unsigned)((uint64_t)(answer) >> 40 & 0xFF))
 #define BAKER_A(answer) ((unsigned)((uint64_t)(answer) >> 16 & 0xFFFFFF))
 #define BAKER_B(answer) ((unsigned)((uint64_t)(answer) & 0xFFFF))
-#define BAKER_VALUE(answer) ((uint32_t)((uint64_t)(answer) & 0xFFFFFFFF))
-#define BAKER_REMEMBERED(answer) ((int)((uint64_t)(answer) >> 32 & 1))
 
 /* A verdict that is clear: at no moment of the run does the point touch the piece. */
 #define BAKER_CLEAR UINT32_C(0xFFFFFFFF)
+
+/* Values of baker_place. */
+#define BAKER_OUTSIDE 0
+#define BAKER_INSIDE 1
+#define BAKER_ON 2
+
+/* The value of baker_room_piece at or past the piece count. */
+#define BAKER_END 0
+
+/* Values of baker_take. */
+#define BAKER_TAKEN_GRID 0
+#define BAKER_TAKEN_OFF_GRID 1
+#define BAKER_TAKEN_NOT_A_NUMBER 2
+#define BAKER_TAKEN_OUT_OF_REACH 3
+
+/*
+ * Numbers of refusals, each with what it says. Where several bytes, numbers or corners are wrong, the place a is
+ * the first of them; of several pairs of edges it is the one with the least a, then with the least b; a is below
+ * b. Edge i leaves corner i, and both count from 0.
+ */
+#define BAKER_REFUSAL_LENGTH 1 /* the length of a room, a book, a block, an input or a file is wrong */
+#define BAKER_REFUSAL_CHECK 2 /* the check of a block is wrong */
+#define BAKER_REFUSAL_KIND 3 /* byte a is wrong: kind, name, edition, piece count, or unnamed and not zero */
+#define BAKER_REFUSAL_REACH 4 /* the number at byte a is out of reach, or the bottom is above the top */
+#define BAKER_REFUSAL_CORNERS 5 /* the corners are not 3 to 64, or their list is odd */
+#define BAKER_REFUSAL_SAME 6 /* corner a equals the next */
+#define BAKER_REFUSAL_FOLD 7 /* the edges fold at corner a */
+#define BAKER_REFUSAL_MEET 8 /* edges a and b meet */
+#define BAKER_REFUSAL_CLOCKWISE 9 /* the corners run clockwise */
+#define BAKER_REFUSAL_SHORT 10 /* the lent list is too short */
+/* b is 0 for x, 1 for y */
+#define BAKER_REFUSAL_NOT_A_NUMBER 11 /* x or y of corner a is not a number */
+#define BAKER_REFUSAL_OUT_OF_REACH 12 /* x or y of corner a is out of reach, below -1024 or above 1024 */
+#define BAKER_REFUSAL_OFF_GRID 13 /* x or y of corner a is off the grid, no whole number of sixteenths */
+/* a is the line of the file, from 1; 0 where there is no face */
+#define BAKER_REFUSAL_LINE 14 /* this is no good `v` or `f` line, and none that is passed over */
+#define BAKER_REFUSAL_INDEX 15 /* an index names no `v` above the face */
+#define BAKER_REFUSAL_FACE 16 /* a second face, or none */
+
+/* ---- sizes and bounds ---- */
+
+#define BAKER_BLOCK_SIZE 512 /* bytes of a block */
+#define BAKER_MOST_PIECES 126 /* of a room: an image has 1 + pieces blocks */
+#define BAKER_MOST_SLOTS 128 /* of a book, each a block; at least 1 */
+#define BAKER_LONGEST_FILE 65536 /* bytes of an OBJ file */
+#define BAKER_LEAST_CORNERS 3
+#define BAKER_MOST_CORNERS 64
+#define BAKER_RUN_NUMBERS 7 /* of a list that a run is read into */
+#define BAKER_PIECE_NUMBERS 133 /* of a list that any piece is read into */
+#define BAKER_CORNER_NUMBERS 128 /* of a list that any corners are read into */
+#define BAKER_MOST_REACH 16384 /* of positions, corners and heights, either way, in grid units */
+#define BAKER_MOST_SPEED 255 /* of velocities, either way, in grid units per tick */
+#define BAKER_MOST_TICKS 4096 /* of a run */
+#define BAKER_TICK_MARKS 256 /* marks of a tick */
+#define BAKER_EXPORT_UNIT 16 /* grid units of an exported unit */
 
 /* ---- plain numbers ---- */
 
@@ -76,7 +133,7 @@ uint64_t baker_check_piece(int32_t bottom, int32_t top, int32_t vx, int32_t vy, 
 
 /*
  * Where the point (x, y) lies against a footprint.
- * Value: 0 outside, 1 inside, 2 on. Refused: 4 at 2 or at 4 for the point, then the
+ * Value: BAKER_OUTSIDE, BAKER_INSIDE or BAKER_ON. Refused: 4 at 2 or at 4 for the point, then the
  * footprint's 5, 4, 6, 7, 8, 9.
  */
 uint64_t baker_place(int32_t x, int32_t y, const int32_t *corners, size_t corners_len);
@@ -110,8 +167,8 @@ uint64_t baker_write_run(int32_t x, int32_t y, int32_t z, int32_t vx, int32_t vy
 
 /*
  * A run from a block, into a list: x, y, z, vx, vy, vz, ticks; later elements stay.
- * Value: 0. Refused: 1, 2, 3, 4; at last 10 where the list has fewer than 7 elements. The list is then
- * as it was.
+ * Value: 0. Refused: 1, 2, 3, 4; at last 10 where the list has fewer than BAKER_RUN_NUMBERS elements. The
+ * list is then as it was.
  */
 uint64_t baker_read_run(const uint8_t *block, size_t block_len, int32_t *numbers,
                         size_t numbers_len);
@@ -129,7 +186,7 @@ uint64_t baker_write_piece(int32_t bottom, int32_t top, int32_t vx, int32_t vy, 
  * A piece from a block, into a list: bottom, top, vx, vy, vz, then the corners, 5 + 2 * count numbers;
  * later elements stay.
  * Value: the corner count. Refused: 1, 2, 3, 5, 3, 4, 6, 7, 8, 9; at last 10 where the list has fewer
- * than 133 elements. The list is then as it was.
+ * than BAKER_PIECE_NUMBERS elements, whatever the piece. The list is then as it was.
  */
 uint64_t baker_read_piece(const uint8_t *block, size_t block_len, int32_t *numbers,
                           size_t numbers_len);
@@ -138,7 +195,7 @@ uint64_t baker_read_piece(const uint8_t *block, size_t block_len, int32_t *numbe
 
 /*
  * A step of a reader: the piece at a place, pieces from 0, into a list as baker_read_piece fills it.
- * Value: the corner count, or 0 where the place is at or past the piece count: the end, which needs no
+ * Value: the corner count, or BAKER_END where the place is at or past the piece count: the end needs no
  * list. Refused: 1, the header's 2 and 3, 1 where length and count differ, then that piece's block, at
  * last 10. The list is then as it was. To walk a room, go on at place + 1 after each piece.
  */
@@ -159,8 +216,10 @@ uint64_t baker_room_verdicts(int32_t x, int32_t y, int32_t z, int32_t vx, int32_
 /* ---- the book of remembered verdicts: 1 to 128 slots of 512 bytes; all zero is an empty book ---- */
 
 /*
- * The verdict as baker_verdict gives it, remembered in the book: where the book has it, bit 32 is set
- * and no byte changes; otherwise it is worked out and its home slot is written.
+ * The verdict, remembered in the book: where the book has an entry for the question, its verdict comes
+ * back, bit 32 is set and no byte changes; otherwise it is worked out and its home slot is written.
+ * It is the verdict that baker_verdict gives where the book began all zero and was written by baker_ask
+ * alone. In any other book a sound entry is answered as it stands, be it true or not.
  * Value: the mark, or BAKER_CLEAR. Refused: 1 for the book's length, then as baker_verdict; the book is
  * then as it was.
  */
@@ -172,8 +231,9 @@ uint64_t baker_ask(uint8_t *book, size_t book_len, int32_t x, int32_t y, int32_t
 
 /*
  * One number.
- * Value: 0 taken, and *grid is its grid number; 1 off the grid, and *floor is the grid value at or below
- * it, in the export's unit; 2 not a number; 3 out of reach. What is not named stays. Never refused.
+ * Value: BAKER_TAKEN_GRID, and *grid is its grid number; BAKER_TAKEN_OFF_GRID, and *floor is the grid value
+ * at or below it, in the export's unit; BAKER_TAKEN_NOT_A_NUMBER; BAKER_TAKEN_OUT_OF_REACH. What is not named
+ * stays. Never refused.
  */
 uint64_t baker_take(float x, int32_t *grid, float *floor);
 

@@ -1,7 +1,7 @@
 //! OBJ files that are timed, the same each time. All are good.
 
-use gen::footprints::rim;
-use gen::Rng;
+use generators::footprints::rim;
+use generators::Rng;
 
 /// As long as a file can be.
 const LONGEST: usize = 65_536;

@@ -39,7 +39,7 @@ fn main() {
         println!("{:42} {proved:>10} {:>10} {ratio:>7}  {} a second", row.name, figure(plain), row.unit);
     }
     if !baker::PRESENT {
-        println!("\nThe proved column needs BAKER_LIB, the path of libbaker.a, when this is built.");
+        println!("\nBuilt without the proved library, by the feature library-optional: see BAKER_LIB.");
     }
 }
 
@@ -91,8 +91,8 @@ fn rows() -> Vec<Row> {
         }));
     }
     for (name, image) in [
-        ("room verdicts, 40 pieces of 4 to 12", gen::blocks::image(&typical_room())),
-        ("room verdicts, 126 pieces of 64", gen::blocks::image(&full_room())),
+        ("room verdicts, 40 pieces of 4 to 12", generators::blocks::image(&typical_room())),
+        ("room verdicts, 126 pieces of 64", generators::blocks::image(&full_room())),
     ] {
         let runs = bake_runs(16);
         rows.push(row(name, "rooms", move |calls| rooms(calls, &runs, &image)));
@@ -134,7 +134,7 @@ fn objs() -> Vec<Row> {
 fn bakes() -> Vec<Row> {
     let fresh = bake_runs(10_000);
     let (same, by_verdict) = (fresh.clone(), fresh.clone());
-    let image = gen::blocks::image(&typical_room());
+    let image = generators::blocks::image(&typical_room());
     vec![
         row("bake of 10,000 runs, by room verdicts", "runs", move |calls| rooms(calls, &fresh, &image)),
         row("bake of 10,000 runs, by single verdicts", "runs", move |calls| {

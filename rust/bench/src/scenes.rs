@@ -1,7 +1,7 @@
 //! What is timed: pieces, runs and rooms, the same each time.
 
-use gen::footprints::{flat, rim};
-use gen::Rng;
+use generators::footprints::{flat, rim};
+use generators::Rng;
 use second::{Piece, Run};
 
 /// A piece of so many corners with a middle within reach.
@@ -87,7 +87,7 @@ pub fn questions(bake: u64) -> Vec<(Run, Piece)> {
 /// The numbers of an exported footprint of 64 corners.
 pub fn exported() -> Vec<f32> {
     let rng = &mut Rng::of_case(13, 0);
-    (0..128).map(|_| gen::floats::on_grid(rng)).collect()
+    (0..128).map(|_| generators::floats::on_grid(rng)).collect()
 }
 
 #[cfg(test)]
@@ -125,10 +125,37 @@ mod tests {
         bake(0, false);
     }
 
+    /// How many of 4,000 questions, 100 runs on 40 pieces, are remembered when they are asked again.
+    fn remembered(books: usize, chosen: impl Fn(usize, usize) -> usize) -> usize {
+        let (runs, room) = (bake_runs(100), typical_room());
+        let mut shelf = vec![vec![0; SLOTS * 512]; books];
+        let mut bake = || {
+            let mut remembered = 0;
+            for (i, run) in runs.iter().enumerate() {
+                for (j, piece) in room.iter().enumerate() {
+                    let asked = second::book::ask(&mut shelf[chosen(i, j)], run, piece).unwrap();
+                    remembered += usize::from(asked.remembered);
+                }
+            }
+            remembered
+        };
+        assert_eq!(bake(), 0);
+        bake()
+    }
+
+    /// The figures of the README.
+    #[test]
+    fn many_questions_need_many_books() {
+        assert_eq!(remembered(1, |_, _| 0), 0);
+        assert_eq!(remembered(100, |run, _| run), 2_600);
+        assert_eq!(remembered(400, |run, piece| (40 * run + piece) % 400), 3_840);
+        assert_eq!(questions(0).len(), SLOTS);
+    }
+
     #[test]
     fn rooms_and_bakes_are_not_refused() {
         let mut list = [0; 126];
-        let images = [typical_room(), full_room()].map(|room| gen::blocks::image(&room));
+        let images = [typical_room(), full_room()].map(|room| generators::blocks::image(&room));
         for run in bake_runs(20) {
             for image in &images {
                 assert!(second::room::room_verdicts(&run, image, &mut list).is_ok());

@@ -2,7 +2,7 @@
 
 use crate::calls::Calls;
 use crate::code;
-use gen::{blocks, bodies, books, floats, footprints, obj, Rng};
+use generators::{blocks, bodies, books, floats, footprints, obj, Rng};
 use second::{Piece, Run};
 use std::fmt::{self, Write};
 

@@ -72,7 +72,8 @@ fn shade(program: &str, cases: Cases) -> bool {
     };
     let counts: Vec<_> = tally.iter().map(|(kind, count)| format!("{kind}: {count}")).collect();
     let seconds = began.elapsed().as_secs_f64();
-    println!("shade: {} cases agree, {seconds:.1} s   {}", cases.cases, counts.join(", "));
+    let tried: u64 = tally.values().sum();
+    println!("shade: {tried} cases agree, {seconds:.1} s   {}", counts.join(", "));
     let mut all = true;
     for kind in differ::shade::KINDS {
         if cases.cases >= MANY && !tally.contains_key(kind) {
@@ -89,6 +90,9 @@ fn calls(wanted: &Wanted) -> bool {
     if examined.is_empty() {
         eprintln!("there is no such implementation; the proved one needs BAKER_LIB when differ is built");
         return false;
+    }
+    if !baker::PRESENT {
+        eprintln!("built without the proved library, by the feature library-optional: see BAKER_LIB");
     }
     let mut agree = true;
     for calls in &examined {
