@@ -47,7 +47,7 @@ extern "C" {
 
 #define BAKER_REFUSED(answer) ((int)((uint64_t)(answer) >> 63))
 
-/* Of an answer that is not refused. */
+/* Of an answer that is not refused: test BAKER_REFUSED first. */
 #define BAKER_VALUE(answer) ((uint32_t)((uint64_t)(answer) & 0xFFFFFFFF))
 #define BAKER_REMEMBERED(answer) ((int)((uint64_t)(answer) >> 32 & 1))
 
@@ -140,7 +140,7 @@ uint64_t baker_place(int32_t x, int32_t y, const int32_t *corners, size_t corner
 
 /*
  * The verdict of a run (x .. ticks) and a piece (bottom, top, velocity ux, uy, uz, corners).
- * Value: the mark of the first contact, or BAKER_CLEAR. Refused: the run as baker_check_run, then the
+ * Value: the mark at which contacts begin, or BAKER_CLEAR. Refused: the run as baker_check_run, then the
  * piece as baker_check_piece.
  */
 uint64_t baker_verdict(int32_t x, int32_t y, int32_t z, int32_t vx, int32_t vy, int32_t vz,

@@ -121,6 +121,7 @@ int main(int argc, char **argv)
 
     make_room(image);
     printf("remembered %d of %d\n", bake(image, sizeof image), PIECES * COLUMNS * ROWS);
+    if (fflush(stdout) != 0 || ferror(stdout)) return perror("bake: standard output"), 1;
 
     file = fopen(argv[1], "wb");
     if (!file || fwrite(books, sizeof books, 1, file) != 1 || fclose(file) != 0) return perror(argv[1]), 1;

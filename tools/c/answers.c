@@ -152,6 +152,7 @@ static uint64_t obj(const char *text, int32_t *list, size_t list_len)
 
 static void files(void)
 {
+    static uint8_t feeds[BAKER_LONGEST_FILE + 1];
     int32_t list[BAKER_CORNER_NUMBERS];
     IS(good(obj("v 0 9 0\nv 4 9 0\nv 4 9 -4\nv 0 9 -4\nf 1 2 3 4\n", list, COUNT(list)), 4));
     IS(memcmp(list, Q, sizeof Q) == 0);
@@ -159,6 +160,12 @@ static void files(void)
     IS(refused(obj("v 0 0 0\nf 1 2\n", list, COUNT(list)), BAKER_REFUSAL_INDEX, 0, 2, 0));
     IS(refused(obj("", list, COUNT(list)), BAKER_REFUSAL_FACE, 0, 0, 0));
     IS(refused(obj("v 0 0 0\nv 0.01 0 0\nf 1 2\n", list, COUNT(list)), BAKER_REFUSAL_OFF_GRID, 0, 1, 0));
+    /* the last line that a file can have, and a file that is too long */
+    memset(feeds, '\n', sizeof feeds);
+    feeds[BAKER_LONGEST_FILE - 1] = 'x';
+    IS(refused(baker_obj(feeds, BAKER_LONGEST_FILE, 0, 32, 0, 0, 0, list, COUNT(list)), BAKER_REFUSAL_LINE, 0,
+               BAKER_LONGEST_FILE, 0));
+    IS(refused(baker_obj(feeds, sizeof feeds, 0, 32, 0, 0, 0, list, COUNT(list)), BAKER_REFUSAL_LENGTH, 0, 0, 0));
     IS(memcmp(list, Q, sizeof Q) == 0);
 }
 

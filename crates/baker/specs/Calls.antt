@@ -6,11 +6,10 @@ use lib.Ieee.{Float}
 use Rattle.rules.specs.Reach.{Run, Piece}
 use Rattle.rules.specs.Ring.{Pt}
 use Rattle.rules.specs.Good.{runChecks, pieceChecks}
-use Rattle.refusal.specs.Said.{Finds, Writes}
+use Rattle.refusal.specs.Said.{Finds}
 use Rattle.piece.specs.Place.{Lies}
 use Rattle.piece.specs.Tells.{Tells}
-use Rattle.block.specs.Layout.{headerBlock, runBlock, pieceBlock}
-use Rattle.block.specs.Reading.{headerAsked, runAsked, pieceAsked, HeaderSays, RunSays, PieceSays}
+use Rattle.block.specs.Reading.{WriteHeaderSays, WriteRunSays, WritePieceSays, HeaderSays, RunSays, PieceSays}
 use Rattle.intake.specs.Number.{Answer}
 use Rattle.obj.specs.File.{ObjSays}
 use Rattle.room.specs.Step.{StepSays}
@@ -35,13 +34,13 @@ VerdictGives r k c = Coded (Tells r k) verdictCode c
 
 -- ---- blocks, before and after
 abbrev pub WriteHeaderGives : ℕ → List ℕ → List ℕ → ℕ → Type 0
-WriteHeaderGives n before after c = Coded (Writes (headerAsked before n) (headerBlock n) before after) checkedCode c
+WriteHeaderGives n before after c = Coded (WriteHeaderSays n before after) checkedCode c
 
 abbrev pub WriteRunGives : Run → List ℕ → List ℕ → ℕ → Type 0
-WriteRunGives r before after c = Coded (Writes (runAsked before r) (runBlock r) before after) checkedCode c
+WriteRunGives r before after c = Coded (WriteRunSays r before after) checkedCode c
 
 abbrev pub WritePieceGives : Piece → List ℕ → List ℕ → ℕ → Type 0
-WritePieceGives k before after c = Coded (Writes (pieceAsked before k) (pieceBlock k) before after) checkedCode c
+WritePieceGives k before after c = Coded (WritePieceSays k before after) checkedCode c
 
 abbrev pub ReadHeaderGives : List ℕ → ℕ → Type 0
 ReadHeaderGives l c = Coded (HeaderSays l) headerCode c

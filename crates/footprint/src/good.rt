@@ -45,7 +45,7 @@ pub fn sized(l: &[i32]) -> bool
     len <= 128
 }
 
-// The first of a corner's two numbers that is out of reach.
+// The first of a corner's two numbers that is out of reach, or 2.
 fn stray(l: &[i32], k: usize) -> usize
     requires { ⌜ k < ring (now l) .size ⌝ }
     ensures { λ r. ⌜ Seeks (λ j. Stray (now (l .entry)) (2 * k + j)) 2 r ⌝ }

@@ -48,7 +48,7 @@ printed r input list after n f = record { room = room-passes r (roomPart input) 
 
 -- ---- a short text is put whole, and is counted
 module _ {before text after : List ℕ} {n : ℕ} (p : Puts before 0 text after n) where
-  pub whole : n ≤ 8192 → 8192 ≤ length before → length text ≤ length before
+  pub whole : n ≤ 6328 → 6328 ≤ length before → length text ≤ length before
   whole h g = omega (arith, p .end)
 
   pub counted : length text ≤ length before → Counts n after

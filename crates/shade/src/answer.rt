@@ -35,7 +35,7 @@ fn check_length(input: &[u8]) -> Checked
 
 // A good run: the room's verdicts. The list has an element for each piece that a room can have, so it is never too short.
 fn answer_room(run: Run, input: &[u8], out: &mut [u8]) -> usize
-    requires { ⌜ (8192 ≤ length (now out)) × Whole (now input) × RunGood (runPart (now input)) (runOf run) ⌝ }
+    requires { ⌜ (6328 ≤ length (now out)) × Whole (now input) × RunGood (runPart (now input)) (runOf run) ⌝ }
     ensures { λ r. ⌜ Prints (now (input .entry)) (now (out .entry)) (now (out .exit)) r ⌝ }
 {
     let mut codes = [0u32; 126];
@@ -48,7 +48,7 @@ fn answer_room(run: Run, input: &[u8], out: &mut [u8]) -> usize
 
 // The run block by itself first: its refusals look like a header's.
 fn answer_blocks(input: &[u8], out: &mut [u8]) -> usize
-    requires { ⌜ (8192 ≤ length (now out)) × Whole (now input) ⌝ }
+    requires { ⌜ (6328 ≤ length (now out)) × Whole (now input) ⌝ }
     ensures { λ r. ⌜ Prints (now (input .entry)) (now (out .entry)) (now (out .exit)) r ⌝ }
 {
     let read = read_run(&input[..512]);
@@ -59,7 +59,7 @@ fn answer_blocks(input: &[u8], out: &mut [u8]) -> usize
 }
 
 pub(crate) fn answer(input: &[u8], out: &mut [u8]) -> usize
-    requires { ⌜ 8192 ≤ length (now out) ⌝ }
+    requires { ⌜ 6328 ≤ length (now out) ⌝ }
     ensures { λ r. ⌜ Prints (now (input .entry)) (now (out .entry)) (now (out .exit)) r ⌝ }
     ensures { λ r. ⌜ Counts r (now (out .exit)) ⌝ }
 {

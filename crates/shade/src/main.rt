@@ -10,7 +10,7 @@ use libc::STDOUT_FILENO;
 fn main() {
     let mut input = [0u8; 65537];
     let n = io::read_full(STDIN_FILENO, &mut input);
-    let mut out = [0u8; 8192];
+    let mut out = [0u8; 6328];
     let k = answer::answer(&input[..n], &mut out);
     if !io::write_all(STDOUT_FILENO, &out[..k]) {
         os::fail(b"shade: standard output");

@@ -1,8 +1,8 @@
 //! bake BOOKS: makes a room, bakes its floor by a run from each patch to the lamp, prints which piece
 //! stands in the light of each patch, and asks the same questions of the books in the file BOOKS, which
-//! is made where there is none. Called again it finds them there:
+//! is made where there is none. Called again it finds them there. In `rust/`:
 //!
-//!     cargo run --release --offline -p baker --example bake -- BOOKS
+//!     BAKER_LIB=target/staticlib/libbaker.a cargo run --release --offline -p baker --example bake -- BOOKS
 //!
 //! `examples/c/bake.c` is the same in C.
 

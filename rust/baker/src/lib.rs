@@ -221,8 +221,9 @@ pub fn room_verdicts(run: &Run, image: &[u8], list: &mut [u32]) -> Result<usize,
     answer(coded::room_verdicts(run, image, list)).map(|count| count as usize)
 }
 
-/// The verdict, and whether the book remembered it. A book has 1 to [`MOST_SLOTS`] blocks, and an empty
-/// one is all zero.
+/// What the book has for this question, or the verdict worked out and kept in the book; and whether it
+/// was remembered. In a book that began all zero and was written by asking alone it is the verdict. A book
+/// has 1 to [`MOST_SLOTS`] blocks.
 pub fn ask(book: &mut [u8], run: &Run, piece: &Piece) -> Result<(Verdict, bool), Refused> {
     let coded = coded::ask(book, run, piece);
     let verdict = Verdict::of_code(answer(coded)?);

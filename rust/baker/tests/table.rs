@@ -40,10 +40,19 @@ fn the_header_has_the_table() {
 #[test]
 fn the_rules_have_the_table() {
     let rules = read("docs/RULES.md");
-    for &refusal in Refusal::ALL {
-        let row = format!("\n| {} | `{refusal:?}` | {} |", refusal.number(), in_documents(refusal));
-        assert!(rules.contains(&row), "{row}");
-    }
+    // number, name and text, without the places
+    let rows: Vec<[&str; 3]> = rules
+        .lines()
+        .skip_while(|line| !line.starts_with("| No. | name | text |"))
+        .skip(2)
+        .map_while(|line| {
+            let mut cells = line.split('|').map(str::trim).skip(1);
+            Some([cells.next()?, cells.next()?, cells.next()?])
+        })
+        .collect();
+    let due: Vec<[String; 3]> =
+        Refusal::ALL.iter().map(|&r| [r.number().to_string(), format!("`{r:?}`"), in_documents(r)]).collect();
+    assert_eq!(rows, due);
 }
 
 /// The numbers that the header names, refusals apart.

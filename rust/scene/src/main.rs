@@ -1,6 +1,7 @@
 //! scene encode FILE > BYTES, scene decode < BYTES, scene list FILE: see the library for the text.
 
 use scene::{Fault, Shown};
+use std::ffi::OsString;
 use std::io::{self, Read, Write};
 use std::path::Path;
 use std::process::ExitCode;
@@ -37,33 +38,38 @@ struct Answer {
 }
 
 fn main() -> ExitCode {
-    let words: Vec<String> = std::env::args().skip(1).collect();
-    let words: Vec<&str> = words.iter().map(String::as_str).collect();
-    let answer = match words[..] {
-        ["--help" | "-h" | "help"] => Answer::done(USAGE.into()),
-        ["encode" | "list", _] | ["decode"] if !baker::PRESENT => {
+    let words: Vec<OsString> = std::env::args_os().skip(1).collect();
+    let command = words.first().and_then(|word| word.to_str()).unwrap_or("");
+    let answer = match (command, words.get(1..).unwrap_or(&[])) {
+        ("--help" | "-h" | "help", []) => Answer::done(USAGE.into()),
+        ("encode" | "list", [_]) | ("decode", []) if !baker::PRESENT => {
             Answer::not(NOT_LINKED.to_string(), NOT_DONE)
         }
-        ["encode", file] => of_file(file, scene::encode, Answer::done),
-        ["list", file] => of_file(file, scene::list, Answer::shown),
-        ["decode"] => decode(),
+        ("encode", [file]) => of_file(Path::new(file), scene::encode, Answer::done),
+        ("list", [file]) => of_file(Path::new(file), scene::list, Answer::shown),
+        ("decode", []) => decode(),
         _ => {
-            eprint!("{USAGE}");
+            tell(USAGE);
             return ExitCode::from(NOT_DONE);
         }
     };
     let mut out = io::stdout();
     let written = out.write_all(&answer.bytes).and_then(|()| out.flush());
     for line in &answer.told {
-        eprintln!("scene: {line}");
+        tell(&format!("scene: {line}\n"));
     }
     match written {
         Ok(()) => ExitCode::from(answer.status),
         Err(error) => {
-            eprintln!("scene: standard output: {error}");
+            tell(&format!("scene: standard output: {error}\n"));
             ExitCode::from(NOT_DONE)
         }
     }
+}
+
+/// On standard error; where that fails the status still tells.
+fn tell(text: &str) {
+    let _ = io::stderr().write_all(text.as_bytes());
 }
 
 impl Answer {
@@ -82,14 +88,15 @@ impl Answer {
 }
 
 /// What is made of a file's text, or its fault.
-fn of_file<T>(file: &str, made: fn(&[u8], &Path) -> Result<T, Fault>, answer: fn(T) -> Answer) -> Answer {
-    let text = if file == "-" { of_input() } else { std::fs::read(file) };
+fn of_file<T>(file: &Path, made: fn(&[u8], &Path) -> Result<T, Fault>, answer: fn(T) -> Answer) -> Answer {
+    let text = if file == Path::new("-") { of_input() } else { std::fs::read(file) };
+    // `-` and a bare name have the empty path for a folder: the current one
+    let folder = file.parent().unwrap_or(Path::new(""));
+    let file = file.display();
     let text = match text {
         Ok(text) => text,
         Err(error) => return Answer::not(format!("{file}: {error}"), NOT_DONE),
     };
-    // `-` and a bare name have the empty path for a folder: the current one
-    let folder = Path::new(file).parent().unwrap_or(Path::new(""));
     match made(&text, folder) {
         Ok(made) => {
             let Answer { bytes, told, status } = answer(made);

@@ -14,7 +14,7 @@ pub fn told_of_run(numbers: &[i32], refused: &Refused) -> String {
         3..=5 => (-MOST_SPEED, MOST_SPEED),
         _ => (0, MOST_TICKS as i32),
     };
-    with_places(refused, &out_of_reach(NAMES[k], numbers[k], least, most))
+    with_places(refused, &out_of_reach(&format!("{} {}", NAMES[k], numbers[k]), least, most))
 }
 
 /// A refused piece in words, by its numbers in the order of its block: band, velocity, corners.
@@ -28,11 +28,12 @@ pub fn told_of_piece(numbers: &[i32], refused: &Refused) -> String {
         1 if (-MOST_REACH..=MOST_REACH).contains(&number) => {
             format!("top {number} is below bottom {}", numbers[0])
         }
-        0 | 1 => out_of_reach(NAMES[k], number, -MOST_REACH, MOST_REACH),
-        2..=4 => out_of_reach(NAMES[k], number, -MOST_SPEED, MOST_SPEED),
+        0 | 1 => out_of_reach(&format!("{} {number}", NAMES[k]), -MOST_REACH, MOST_REACH),
+        2..=4 => out_of_reach(&format!("{} {number}", NAMES[k]), -MOST_SPEED, MOST_SPEED),
         _ => {
-            let name = format!("{} of corner {}", if k % 2 == 1 { "x" } else { "y" }, (k - 5) / 2);
-            out_of_reach(&name, number, -MOST_REACH, MOST_REACH)
+            let (axis, corner) = (if k % 2 == 1 { "x" } else { "y" }, (k - 5) / 2);
+            let number = format!("{axis} {number} of corner {corner}");
+            out_of_reach(&number, -MOST_REACH, MOST_REACH)
         }
     };
     with_places(refused, &words)
@@ -44,6 +45,6 @@ fn named(numbers: &[i32], refused: &Refused) -> Option<usize> {
     (refused.refusal == Refusal::Reach && k < numbers.len()).then_some(k)
 }
 
-fn out_of_reach(name: &str, number: i32, least: i32, most: i32) -> String {
-    format!("{name} {number} is out of reach, {least} to {most}")
+fn out_of_reach(number: &str, least: i32, most: i32) -> String {
+    format!("{number} is out of reach, {least} to {most}")
 }

@@ -190,7 +190,7 @@ impl Written {
     }
 
     /// The line of the corner that a refusal names, or the line where the piece begins.
-    fn line_of(&self, refused: &Refused) -> usize {
+    pub fn line_of(&self, refused: &Refused) -> usize {
         let a = refused.a as usize;
         let corner = match refused.refusal {
             Refusal::Reach if a >= CORNERS_FROM => Some((a - CORNERS_FROM) / 4),

@@ -34,7 +34,7 @@ pub fn decode(bytes: &[u8]) -> Result<Shown, String> {
     }
     let (run, image) = bytes.split_at(BLOCK_SIZE);
     if let Err(refused @ Refused { block: 0, .. }) = Reader::new(image).step() {
-        return Err(format!("the room is refused: {refused}"));
+        return Err(format!("the room is refused: {}", told_of_room(image, &refused)));
     }
     let mut shown = Shown::default();
     show_run(run, &mut shown);
@@ -43,6 +43,17 @@ pub fn decode(bytes: &[u8]) -> Result<Shown, String> {
         show_piece(i, block, &mut shown);
     }
     Ok(shown)
+}
+
+/// The refusal of a room of whole blocks in words, where none of its pieces is at fault.
+fn told_of_room(image: &[u8], refused: &Refused) -> String {
+    match (refused.refusal, baker::read_header(&image[..BLOCK_SIZE])) {
+        (Refusal::Length, Ok(count)) => {
+            let blocks = image.len() / BLOCK_SIZE - 1;
+            with_places(refused, &format!("its header counts {count} pieces, and it has {blocks}"))
+        }
+        _ => refused.to_string(),
+    }
 }
 
 fn show_run(block: &[u8], shown: &mut Shown) {
@@ -101,7 +112,8 @@ pub fn list(text: &[u8], folder: &Path) -> Result<Shown, Fault> {
         let _ = write!(shown.text, "{i}: {}", summary(written));
         if let Err(refused) = baker::check_piece(&written.piece()) {
             let _ = write!(shown.text, "; refused: {}", written.told(&refused));
-            shown.refused.push(format!("line {}: {}", written.line, written.told_of(i, &refused)));
+            let line = written.line_of(&refused);
+            shown.refused.push(format!("line {line}: {}", written.told_of(i, &refused)));
         }
         shown.text.push('\n');
     }

@@ -121,7 +121,7 @@ fn refused_texts_name_their_line_and_number() {
     piece(&format!("0 20000 0 0 0 {corners}"), 2, &format!("top 20000 {reach} (4 at 4 0)"));
     piece(&format!("2 1 0 0 0 {corners}"), 2, "top 1 is below bottom 2 (4 at 4 0)");
     piece(&format!("0 1 0 256 0 {corners}"), 2, "vy 256 is out of reach, -255 to 255 (4 at 8 0)");
-    piece("0 1 0 0 0\n0 0\n1 0\n0 99999\n", 5, &format!("y of corner 2 99999 {reach} (4 at 22 0)"));
+    piece("0 1 0 0 0\n0 0\n1 0\n0 99999\n", 5, &format!("y 99999 of corner 2 {reach} (4 at 22 0)"));
     piece("1 2 0 0 0\n0 0\n1 0\n", 2, "the corners are not 3 to 64, or their list is odd (5 at 0 0)");
     piece("0 1 0 0 0\n0 0 9 0\n9 0\n0 1", 3, "corner 1 equals the next (6 at 1 0)");
     piece("0 1 0 0 0\n0 0\n64 0\n32 0\n32 64\n", 4, "the edges fold at corner 1 (7 at 1 0)");
@@ -144,9 +144,10 @@ fn refused_bytes_are_shown() {
     room(&[0; 1_024], &format!("{kind} (3 at 0 0)"));
 
     let bytes = encode(example("room.scene")).unwrap();
-    // the last block is missing
-    let length = "the length of a room, a book, a block, an input or a file is wrong";
-    room(&bytes[..bytes.len() - 512], &format!("{length} (1 at 0 0)"));
+    // the last block is missing, or there twice
+    room(&bytes[..bytes.len() - 512], "its header counts 2 pieces, and it has 1 (1 at 0 0)");
+    let last = &bytes[bytes.len() - 512..];
+    room(&[&bytes, last].concat(), "its header counts 2 pieces, and it has 3 (1 at 0 0)");
     let shown = |bytes: &[u8], why: &str, text: &str| {
         let shown = Shown { text: text.to_string(), refused: vec![why.to_string()] };
         assert_eq!(decode(bytes), Ok(shown));
@@ -220,17 +221,22 @@ fn pieces_are_listed() {
     assert_eq!(listed(&example("corner-sofa.scene")), Ok(shown));
 
     // no run is needed, and a piece that is refused is listed with the others
-    let text = "piece 0 1 0 0 0\n-1 0 4 0 4 1\npiece 0 0 0 0 0 0 0 0 1 1 1\npiece 0 0 0 0 0\n";
+    let text = "piece 0 1 0 0 0\n-1 0 4 0 4 1\npiece 0 0 0 0 0 0 0 0 1 1 1\npiece 0 0 0 0 0\n\
+        piece 0 1 0 0 0\n0 0 1 0\n1 0 0 1\n";
     let corners = "the corners are not 3 to 64, or their list is odd (5 at 0 0)";
     let expected = format!(
         "0: line 1, 3 corners, x -1 to 4, y 0 to 1, height 0 to 1, area 2.5\n\
          1: line 3, 3 corners, x 0 to 1, y 0 to 1, height 0 to 0, area -0.5; \
          refused: the corners run clockwise (9 at 0 0)\n\
-         2: line 4, 0 corners, x -, y -, height 0 to 0, area 0; refused: {corners}\n"
+         2: line 4, 0 corners, x -, y -, height 0 to 0, area 0; refused: {corners}\n\
+         3: line 5, 4 corners, x 0 to 1, y 0 to 1, height 0 to 1, area 0.5; \
+         refused: corner 1 equals the next (6 at 1 0)\n"
     );
     let refused = vec![
         "line 3: piece 1 is refused: the corners run clockwise (9 at 0 0)".to_string(),
         format!("line 4: piece 2 is refused: {corners}"),
+        // the corner's own line, as in encoding
+        "line 6: piece 3 is refused: corner 1 equals the next (6 at 1 0)".to_string(),
     ];
     assert_eq!(listed(text), Ok(Shown { text: expected, refused }));
     let fault = Fault { line: 1, why: "`x` is no whole number".to_string(), refused: false };
