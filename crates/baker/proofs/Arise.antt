@@ -1,4 +1,4 @@
--- Every refusal that the checks of a call can give fits in the bits of its code, and no mark is the code of clear. Assumes nothing.
+-- Every refusal that the checks of a call can give fits in the bits of its code. Assumes nothing.
 use mathlib.Core.Path.{_≡_, refl, sym, subst}
 use mathlib.Core.Logic.{inl, inr, ⊎-elim}
 use mathlib.Core.List.{List, [], _∷_, _++_}
@@ -13,10 +13,6 @@ use Rattle.rules.specs.Refusal.{Refusal, refuse, Check, Passes, Fault, demand, 
 use Rattle.rules.specs.Good.{Sized, runChecks, sizedCheck, bandCheck, shapeChecks, footprintChecks, pieceChecks}
 use Rattle.rules.specs.Place.{placeChecks}
 use Rattle.rules.specs.Verdict.{verdictChecks}
-use Rattle.rules.proofs.Checks.{passes-left}
-use Rattle.rules.proofs.Verdict.{mark-small}
-use Rattle.piece.specs.Tells.{Tells}
-use Rattle.piece.specs.declared.motion.Verdict.the-variants.{Clear, Mark}
 use Rattle.intake.specs.declared.Corner.{Corner}
 use Rattle.intake.specs.declared.Taken.{Taken}
 use Rattle.intake.specs.declared.Taken.the-variants.{Grid, OffGrid, NotNumber, Beyond}
@@ -28,14 +24,12 @@ use Rattle.obj.specs.File as obj
 use Rattle.obj.proofs.Bounds.{lines-few, face-few}
 use Rattle.block.specs.Layout.{blockAt}
 use Rattle.block.specs.Reading.{blockChecks, headerBytes, headerChecks, runBytes, pieceBytes, RunIn, PieceIn, inside, runBlockChecks, pieceBlockChecks, headerAsked, runAsked, pieceAsked}
-use Rattle.block.proofs.RunLaws.{good-ticks}
 use Rattle.block.proofs.PieceLaws.{sized-most}
 use Rattle.room.specs.Image.{inBlock, headChecks, piecesCheck, roomChecks}
 use Rattle.room.specs.Step.{StepFault, head, block}
 use Rattle.room.specs.Verdicts.{verdictsChecks}
 use Rattle.room.proofs.Images.{head-few}
 use Rattle.book.specs.Ask.{askChecks}
-use Rattle.baker.specs.Coded.{verdictCode}
 use Rattle.baker.specs.Told.{Fits}
 use Rattle.baker.specs.Export.{corners, exportChecks}
 
@@ -221,8 +215,3 @@ fit-obj file k size =
 -- a lent list that is too short
 pub fit-short : Fits (refuse 10 0 0)
 fit-short = small 10 0 0 (omega arith) (omega arith) (omega arith)
-
--- ---- numbers: a mark is below what codes clear
-pub mark-told : (r : Run) (k : Piece) (m : ℕ) → Tells r k (Mark m) → m < verdictCode Clear
-unfolding verdictChecks
-mark-told r k m f = mark-small r k m (good-ticks r (passes-left (runChecks r) (pieceChecks k) (f .0))) (f .1)

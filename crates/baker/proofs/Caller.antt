@@ -10,13 +10,13 @@ use Rattle.rules.specs.Reach.{Run, Piece}
 use Rattle.rules.specs.Good.{runChecks, pieceChecks}
 use Rattle.rules.specs.Verdict as rules
 use Rattle.rules.specs.Verdict.{answer}
-use Rattle.rules.proofs.Verdict.{mark-answers}
 use Rattle.refusal.specs.Said.{Finds, Writes}
 use Rattle.refusal.specs.declared.Checked.{Checked}
 use Rattle.refusal.specs.declared.Checked.the-variants.{Good, Refused}
-use Rattle.piece.specs.Tells.{Tells}
-use Rattle.piece.specs.declared.motion.Verdict.{Verdict}
-use Rattle.piece.specs.declared.motion.Verdict.the-variants as verdict
+use Rattle.piece.specs.Tells.{codedOf}
+use Rattle.piece.proofs.Tells.{TellsCode, tells-code}
+use Rattle.piece.specs.declared.motion.Coded as piece
+use Rattle.piece.specs.declared.motion.Coded.the-variants as verdict
 use Rattle.block.specs.Layout.{headerBlock, runBlock, pieceBlock}
 use Rattle.block.specs.Reading.{headerAsked, runAsked, pieceAsked, HeaderSays}
 use Rattle.block.specs.declared.HeaderRead.{HeaderRead}
@@ -32,11 +32,10 @@ use Rattle.book.specs.declared.Asked.{Asked}
 use Rattle.book.specs.declared.Asked.the-variants as asked
 use Rattle.book.proofs.Kept.{true-hit}
 use Rattle.baker.specs.Macros as macro
-use Rattle.baker.specs.Coded.{Coded, checkedMeans, verdictMeans, headerMeans, countedMeans, askedMeans, outlineMeans, checkedCode}
+use Rattle.baker.specs.Coded.{Coded, checkedMeans, codedMeans, headerMeans, countedMeans, askedMeans, outlineMeans, checkedCode}
 use Rattle.baker.specs.Told.{Macros, Reads}
 use Rattle.baker.specs.Export.{Exported}
 use Rattle.baker.specs.Calls.{CheckRunGives, CheckPieceGives, VerdictGives, WriteHeaderGives, WriteRunGives, WritePieceGives, ReadHeaderGives, RoomVerdictsGives, AskGives, IntakeGives, ObjGives}
-use Rattle.baker.proofs.Arise.{mark-told}
 use Rattle.baker.proofs.Read.{check-run-read, check-piece-read, verdict-read, write-header-read, write-run-read}
 use Rattle.baker.proofs.Read.{write-piece-read, read-header-read, room-verdicts-read, ask-read, intake-read, obj-read}
 
@@ -73,11 +72,10 @@ coded r k c n e v = subst (λ (m : ℕ). rules.Verdict r k (answer m)) (sym e) v
 
 -- of baker_verdict: BAKER_VALUE is the code of the verdict
 pub verdict-value : (r : Run) (k : Piece) (c : ℕ) → VerdictGives r k c → macro.refused c ≡ 0 → rules.Verdict r k (answer (macro.value c))
-verdict-value r k c h z = by-case (h .answer) (h .says) (verdict-read r k c h .macros)
+verdict-value r k c h z = by-case (codedOf (h .answer)) (tells-code r k (h .answer) (h .says)) (verdict-read r k c h .macros)
   where
-    by-case : (x : Verdict) → Tells r k x → Macros c (verdictMeans x) → rules.Verdict r k (answer (macro.value c))
-    by-case verdict.Clear t m = coded r k (macro.value c) rules.NONE (m .value) (t .1)
-    by-case (verdict.Mark n) t m = coded r k (macro.value c) n (m .value) (mark-answers r k n (mark-told r k n t) (t .1))
+    by-case : (x : piece.Coded) → TellsCode r k x → Macros c (codedMeans x) → rules.Verdict r k (answer (macro.value c))
+    by-case (verdict.Code n) t m = coded r k (macro.value c) n (m .value) (t .verdict)
     by-case (verdict.Refused x) t m = let e = m .refused in absurd (omega arith)
 
 -- of baker_read_header, baker_room_verdicts and baker_obj: it is the count

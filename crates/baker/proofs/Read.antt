@@ -18,11 +18,12 @@ use Rattle.refusal.specs.Said.{said, Finds, Writes}
 use Rattle.refusal.specs.declared.Checked.{Checked}
 use Rattle.refusal.specs.declared.Checked.the-variants.{Good, Refused}
 use Rattle.piece.specs.Place.{Lies}
-use Rattle.piece.specs.Tells.{Tells}
+use Rattle.piece.specs.Tells.{Tells, codedOf}
+use Rattle.piece.proofs.Tells.{TellsCode, tells-code}
 use Rattle.piece.specs.declared.Placed.{Placed}
 use Rattle.piece.specs.declared.Placed.the-variants as placed
-use Rattle.piece.specs.declared.motion.Verdict.{Verdict}
-use Rattle.piece.specs.declared.motion.Verdict.the-variants as verdict
+use Rattle.piece.specs.declared.motion.Coded as piece
+use Rattle.piece.specs.declared.motion.Coded.the-variants as verdict
 use Rattle.piece.specs.Numbers.{runOf, pieceOf}
 use Rattle.block.specs.Layout.{headerBlock, runNumbers, runBlock, pieceNumbers, pieceBlock, blockAt}
 use Rattle.block.specs.Reading.{headerAsked, runAsked, pieceAsked, HeaderSays, RunSays, PieceSays, PieceFound}
@@ -51,16 +52,16 @@ use Rattle.room.proofs.Images.{few-pieces}
 use Rattle.book.specs.Ask.{AskSays}
 use Rattle.book.specs.declared.Asked.{Asked}
 use Rattle.book.specs.declared.Asked.the-variants as asked
-use Rattle.baker.specs.Coded.{Coded, Meaning, value, codeOf, checkedMeans, placedMeans, verdictMeans, headerMeans, countedMeans, askedMeans, outlineMeans, Out, out, coded}
+use Rattle.baker.specs.Coded.{Coded, Meaning, value, codeOf, checkedMeans, placedMeans, codedMeans, verdictMeans, headerMeans, countedMeans, askedMeans, outlineMeans, Out, out, coded}
 use Rattle.baker.specs.Told.{Within, Reads}
 use Rattle.baker.specs.Listed.{kept, listed, runListed, pieceFound, pieceListed, stepFound, stepListed}
-use Rattle.baker.specs.Export.{lent, takenOne, exportChecks, Exported}
+use Rattle.baker.specs.Export.{takenOne, exportChecks, Exported}
 use Rattle.baker.specs.Calls.{CheckRunGives, CheckPieceGives, PlaceGives, VerdictGives, WriteHeaderGives, WriteRunGives, WritePieceGives, ReadHeaderGives}
 use Rattle.baker.specs.Calls.{ReadRunGives, ReadPieceGives, RoomPieceGives, RoomVerdictsGives, AskGives, TakeGives, IntakeGives, ObjGives}
 use Rattle.baker.proofs.Readable.{readable}
 use Rattle.baker.proofs.Listed.{read-holds}
 use Rattle.baker.proofs.Arise.{AllFit, fit-run, fit-piece, fit-place, fit-verdict, fit-ask, fit-header, fit-run-block, fit-piece-block}
-use Rattle.baker.proofs.Arise.{fit-header-asked, fit-run-asked, fit-piece-asked, fit-verdicts, fit-step, fit-export, fit-obj, fit-short, mark-told}
+use Rattle.baker.proofs.Arise.{fit-header-asked, fit-run-asked, fit-piece-asked, fit-verdicts, fit-step, fit-export, fit-obj, fit-short}
 
 -- ---- what is coded within its bits reads back
 read : (m : Meaning) (c : ℕ) → Within m → c ≡ codeOf m → Reads c m
@@ -92,9 +93,8 @@ lies p l placed.Inside h = omega arith
 lies p l placed.On h = omega arith
 lies p l (placed.Refused x) h = fit-place p l .fits (said x) h
 
-tells : (r : Run) (k : Piece) (x : Verdict) → Tells r k x → Within (verdictMeans x)
-tells r k verdict.Clear h = omega arith
-tells r k (verdict.Mark m) h = omega (arith, mark-told r k m h)
+tells : (r : Run) (k : Piece) (x : piece.Coded) → TellsCode r k x → Within (codedMeans x)
+tells r k (verdict.Code c) h = omega (arith, h .most)
 tells r k (verdict.Refused x) h = fit-verdict r k .fits (said x) h
 
 heads : (l : List ℕ) (x : HeaderRead) → HeaderSays l x → Within (headerMeans x)
@@ -168,7 +168,7 @@ pub place-read : (p : Pt) (l : List ℤ) (c : ℕ) (h : PlaceGives p l c) → Re
 place-read p l c = read-back (Lies p l) placedMeans (lies p l)
 
 pub verdict-read : (r : Run) (k : Piece) (c : ℕ) (h : VerdictGives r k c) → Reads c (verdictMeans (h .answer))
-verdict-read r k c = read-back (Tells r k) verdictMeans (tells r k)
+verdict-read r k c = read-back (Tells r k) verdictMeans (λ x h. tells r k (codedOf x) (tells-code r k x h))
 
 -- ---- blocks
 pub write-header-read : (n : ℕ) (before after : List ℕ) (c : ℕ) (h : WriteHeaderGives n before after c) → Reads c (checkedMeans (h .answer))

@@ -2,14 +2,15 @@
 use mathlib.Core.Path.{_≡_}
 use Prim.Native.Nat.{ℕ, _+_, _*_, _%_, _^_}
 use Rattle.rules.specs.Refusal.{Refusal}
-use Rattle.rules.specs.Verdict.{NONE}
 use Rattle.refusal.specs.Said.{said}
 use Rattle.refusal.specs.declared.Checked.{Checked}
 use Rattle.refusal.specs.declared.Checked.the-variants as checked
 use Rattle.piece.specs.declared.Placed.{Placed}
 use Rattle.piece.specs.declared.Placed.the-variants as placed
 use Rattle.piece.specs.declared.motion.Verdict.{Verdict}
-use Rattle.piece.specs.declared.motion.Verdict.the-variants as verdict
+use Rattle.piece.specs.declared.motion.Coded as piece
+use Rattle.piece.specs.declared.motion.Coded.the-variants as verdict
+use Rattle.piece.specs.Tells.{codedOf}
 use Rattle.block.specs.declared.HeaderRead.{HeaderRead}
 use Rattle.block.specs.declared.HeaderRead.the-variants as header
 use Rattle.room.specs.Image.{saidIn}
@@ -59,11 +60,13 @@ placedMeans (placed.Refused x) = refusal (said x)
 abbrev pub placedCode : Placed → ℕ
 placedCode r = codeOf (placedMeans r)
 
--- as the rules code it
+-- the code of a verdict
+abbrev pub codedMeans : piece.Coded → Meaning
+codedMeans (verdict.Code c) = value c
+codedMeans (verdict.Refused x) = refusal (said x)
+
 abbrev pub verdictMeans : Verdict → Meaning
-verdictMeans verdict.Clear = value NONE
-verdictMeans (verdict.Mark m) = value m
-verdictMeans (verdict.Refused x) = refusal (said x)
+verdictMeans r = codedMeans (codedOf r)
 
 abbrev pub verdictCode : Verdict → ℕ
 verdictCode r = codeOf (verdictMeans r)

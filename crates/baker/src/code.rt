@@ -2,8 +2,10 @@
 use block::HeaderRead;
 use book::Asked;
 use obj::Outline;
+use piece::Coded;
 use piece::Placed;
 use piece::Verdict;
+use piece::coded;
 use refusal::Checked;
 use refusal::Refusal;
 use refusal::row_of;
@@ -59,10 +61,9 @@ pub(crate) fn placed(r: Placed) -> u64
 pub(crate) fn verdict(r: Verdict) -> u64
     ensures { λ c. ⌜ c ≡ verdictCode r ⌝ }
 {
-    match r {
-        Verdict::Clear => 0xFFFF_FFFF,
-        Verdict::Mark(m) => m as u64,
-        Verdict::Refused(x) => refusal(x),
+    match coded(r) {
+        Coded::Code(c) => c as u64,
+        Coded::Refused(x) => refusal(x),
     }
 }
 

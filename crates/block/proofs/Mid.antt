@@ -1,10 +1,10 @@
 -- Bytes put into the middle of a list: what stands up to their end. Assumes nothing.
 use mathlib.Core.Path.{_≡_, refl, sym, ap, _∙_}
 use mathlib.Core.List.{List, [], _∷_, _++_, append-assoc}
-use Prim.Native.Nat.{ℕ, _+_, _≤_, _<_}
+use Prim.Native.Nat.{ℕ, suc, _+_, _≤_, _<_}
 use native.Mathlib.Omega.{arith}
 use lib.ListN.{length, getD, set, take, drop, List·getD-append, length-set, length-append, length-take, length-drop}
-use lib.Seq.{take-at, drop-at, getD-take, getD-drop, getD-append-add}
+use lib.Seq.{take-at, take-append-le, drop-at, getD-take, getD-drop, getD-append-add}
 
 -- ys in the place of the n bytes from byte a on
 abbrev pub mid : ℕ → ℕ → List ℕ → List ℕ → List ℕ
@@ -47,6 +47,18 @@ module _ (l ys : List ℕ) (a n : ℕ) (h : a + n ≤ length l) (e : length ys �
 -- the bytes of a part
 pub part-length : (l : List ℕ) (a n : ℕ) → a + n ≤ length l → length (take n (drop a l)) ≡ n
 part-length l a n h = omega (arith, length-take n (drop a l), length-drop a l)
+
+-- one first byte, and then others
+module _ (l ys : List ℕ) (x n : ℕ) (h : 1 + n ≤ length l) (e : length ys ≡ n) where
+  pub one-length : length (mid 1 n (set l 0 x) ys) ≡ length l
+  one-length = mid-length (set l 0 x) ys 1 n (omega (arith, length-set l 0 x)) e ∙ length-set l 0 x
+
+  one-is : (l : List ℕ) → 1 ≤ length l → mid 1 n (set l 0 x) ys ≡ x ∷ (ys ++ drop n (drop 1 l))
+  one-is [] h = absurd (omega arith)
+  one-is (a ∷ l) h = refl
+
+  pub one-then : (m : ℕ) → m ≤ n → take (suc m) (mid 1 n (set l 0 x) ys) ≡ x ∷ take m ys
+  one-then m g = ap (take (suc m)) (one-is l (omega arith)) ∙ ap (λ (r : List ℕ). x ∷ r) (take-append-le m ys (drop n (drop 1 l)) (omega arith))
 
 -- two first bytes, and then others
 two-first : (l : List ℕ) (x y : ℕ) → 2 ≤ length l → take 2 (set (set l 0 x) 1 y) ≡ x ∷ y ∷ []

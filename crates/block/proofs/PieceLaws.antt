@@ -5,12 +5,14 @@ use mathlib.Core.List.{List, [], _∷_, _++_}
 use Prim.Native.Nat.{ℕ, zero, suc, _+_, _*_, _-_, _≤_, _<_}
 use native.Mathlib.Omega.{arith}
 use lib.IntN.{ℤ, pos}
-use lib.ListN.{length, getD, take, drop, replicate, length-replicate, length-drop, take-append-drop, List·getD-eq-default, length-append}
-use lib.Seq.{length-take-le, getD-take, getD-drop, ext-getD}
+use lib.ListN.{length, getD, take, drop, replicate, length-replicate, length-drop, take-append-drop, List·getD-eq-default, List·getD-append, length-append}
+use lib.Seq.{length-take-le, getD-take, getD-drop, getD-append-add, ext-getD}
 use lib.Signed.{leZ-yes}
 use mir.Syntax.{w8, w32}
 use mir.Val.{Fits, SFits, toZ, ofZ}
 use mir.Facts.{toZ-ofZ}
+use Rattle.whole.specs.Decide.{Seeks}
+use Rattle.whole.proofs.Decide.{onward}
 use Rattle.whole.proofs.Order.{ℕ-or}
 use Rattle.rules.specs.Reach.{Corners, Piece}
 use Rattle.rules.specs.Ring.{ring}
@@ -26,8 +28,8 @@ use Rattle.refusal.specs.declared.Checked.the-variants.{Refused}
 use Rattle.piece.specs.declared.Band.{Band}
 use Rattle.piece.specs.Numbers.{pieceOf}
 use Rattle.block.specs.declared.PieceRead.{PieceRead}
-use Rattle.block.specs.Layout.{blockSize, bodySize, pieceKind, byte, word, words, filled, blockOf, pieceNumbers, pieceBody, pieceBlock}
-use Rattle.block.specs.Reading.{Half, PieceIn, inside, blockChecks, pieceBytes, pieceBlockChecks, Holds, nothing, PieceFound, PieceSays, Word, PieceGood}
+use Rattle.block.specs.Layout.{blockSize, bodySize, pieceBodySize, pieceKind, byte, word, words, filled, blockOf, pieceNumbers, pieceBody, pieceBlock}
+use Rattle.block.specs.Reading.{Half, PieceIn, inside, blockChecks, pieceBytes, pieceBlockChecks, Holds, nothing, PieceFound, PieceSays, Word, PieceGood, Wide, Held, pieceBodyAsked}
 use Rattle.block.specs.Scan.{BandAt, CornersAt}
 use Rattle.block.proofs.Bytes.{repeated, filled-at, filled-length, block-length, block-at, block-sealed, block-same}
 use Rattle.block.proofs.Face.{stable, unnamed-front}
@@ -79,6 +81,13 @@ module _ (k : Piece) (p : Passes (pieceChecks k)) where
   pub good-word : (j : ℕ) → Word (getD (pieceNumbers k) j (pos 0))
   good-word j = half-word (getD (pieceNumbers k) j (pos 0)) (good-half j)
 
+  pub good-held : Held k
+  good-held = record { few = sized-most (k .corners) good-sized; words = λ j h. good-word j }
+
+  pub good-asked : (bytes : List ℕ) → length bytes ≡ pieceBodySize → Passes (pieceBodyAsked bytes k)
+  unfolding pieceBodyAsked
+  good-asked bytes e = (e, (record { even = good-sized .even; most = sized-most (k .corners) good-sized }, (λ j h w. w (good-word j), tt)))
+
   pub good-in : PieceIn (pieceBlock k) k
   good-in = record { signed = good-half; sized = good-sized; same = refl }
 
@@ -99,13 +108,33 @@ bandNumbers b = b .bottom ∷ b .top ∷ b .vx ∷ b .vy ∷ b .vz ∷ []
 pub read-band : (b : Band) → SFits w32 (b .bottom) → SFits w32 (b .top) → SFits w32 (b .vx) → SFits w32 (b .vy) → SFits w32 (b .vz) → machine b ≡ bandNumbers b
 read-band b p q r s t = rw (toZ-ofZ p, toZ-ofZ q, toZ-ofZ r, toZ-ofZ s, toZ-ofZ t)
 
-pub band-word : (b : Band) (l : List ℤ) → Passes (pieceChecks (pieceOf b l)) → (j : ℕ) → j < 5 → Word (getD (bandNumbers b) j (pos 0))
-band-word b l p zero h = good-word (pieceOf b l) p 0
-band-word b l p (suc zero) h = good-word (pieceOf b l) p 1
-band-word b l p (suc (suc zero)) h = good-word (pieceOf b l) p 2
-band-word b l p (suc (suc (suc zero))) h = good-word (pieceOf b l) p 3
-band-word b l p (suc (suc (suc (suc zero)))) h = good-word (pieceOf b l) p 4
-band-word b l p (suc (suc (suc (suc (suc j))))) h = absurd (omega arith)
+-- two bytes hold them, and the corners
+module _ (b : Band) (l : List ℤ) (h : Held (pieceOf b l)) where
+  pub band-word : (j : ℕ) → j < 5 → Word (getD (bandNumbers b) j (pos 0))
+  band-word j g = subst Word (List·getD-append (bandNumbers b) l (pos 0) j g) (h .words j (omega arith))
+
+  pub corner-word : (j : ℕ) → j < length l → Word (getD l j (pos 0))
+  corner-word j g = subst Word (getD-append-add (bandNumbers b) l j (pos 0)) (h .words (5 + j) (omega arith))
+
+-- ---- the first of two lists' numbers that two bytes do not hold
+module _ (xs ys : List ℤ) where
+  early : (j : ℕ) → j < length xs → Wide (xs ++ ys) j → Wide xs j
+  early j h w v = w (subst Word (sym (List·getD-append xs ys (pos 0) j h)) v)
+
+  late : (j : ℕ) → Wide (xs ++ ys) (length xs + j) → Wide ys j
+  late j w v = w (subst Word (sym (getD-append-add xs ys j (pos 0))) v)
+
+  pub wide-early : (n r : ℕ) → length xs ≤ n → Seeks (Wide xs) (length xs) r → r < length xs → Seeks (Wide (xs ++ ys)) n r
+  wide-early n r g s h = record {
+    before = λ j l i w. s .before j l (omega arith) (early j (omega arith) w);
+    found = λ l v. s .found h (subst Word (List·getD-append xs ys (pos 0) r h) v);
+  }
+
+  pub wide-late : (r : ℕ) → ((j : ℕ) → j < length xs → Wide xs j → ⊥) → r ≤ length ys → Seeks (Wide ys) (length ys) r → Seeks (Wide (xs ++ ys)) (length xs + length ys) (length xs + r)
+  wide-late r f h s = record {
+    before = λ j l i. onward (Wide (xs ++ ys)) (Wide ys) (length xs) (length ys) r (λ j l w. f j l (early j l w)) (λ j l. late j) s r (omega arith) h j l;
+    found = λ l v. s .found (omega arith) (subst Word (getD-append-add xs ys r (pos 0)) v);
+  }
 
 -- ---- the block of a good piece passes
 piece-bytes : (k : Piece) → Sized (k .corners) → Passes (blockChecks (pieceBlock k) ++ pieceBytes (pieceBlock k))

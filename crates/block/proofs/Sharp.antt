@@ -2,14 +2,13 @@
 use mathlib.Core.Path.{_≡_}
 use mathlib.Core.List.{List, [], _∷_, _++_}
 use Prim.Native.Nat.{ℕ}
-use lib.IntN.{ℤ}
 use Rattle.rules.specs.Reach.{Run, Piece}
 use Rattle.rules.specs.Refusal.{Check}
 use Rattle.rules.specs.Good.{runChecks, pieceChecks}
 use Rattle.rules.proofs.Checks.{AllSharp, sharp-demand, sharp-each, sharp-append}
 use Rattle.rules.proofs.Good.{sharp-run, sharp-piece}
 use Rattle.block.specs.Reading.{lengthCheck, blockChecks, headerBytes, headerChecks, runBytes, pieceBytes, RunIn, PieceIn, inside, runBlockChecks, pieceBlockChecks}
-use Rattle.block.specs.Reading.{headerAsked, partsAsked, wordsAsked, runAsked, pieceAsked}
+use Rattle.block.specs.Reading.{headerAsked, partsAsked, runBodyAsked, pieceBodyAsked, runAsked, pieceAsked}
 use Rattle.block.specs.Verdicts.{verdictInChecks}
 use Rattle.block.proofs.Found.{sharp-inside}
 use Rattle.block.proofs.RunLaws.{run-one}
@@ -47,9 +46,13 @@ pub sharp-parts-asked : (l first last : List ℕ) (at : ℕ) → AllSharp (parts
 unfolding partsAsked
 sharp-parts-asked l first last at = (sharp-demand _ _, (sharp-demand _ _, tt))
 
-pub sharp-words-asked : (bytes : List ℕ) (numbers : List ℤ) → AllSharp (wordsAsked bytes numbers)
-unfolding wordsAsked
-sharp-words-asked bytes numbers = (sharp-demand _ _, (sharp-each _ _ _, tt))
+pub sharp-run-body-asked : (bytes : List ℕ) (r : Run) → AllSharp (runBodyAsked bytes r)
+unfolding runBodyAsked
+sharp-run-body-asked bytes r = (sharp-demand _ _, sharp-run r)
+
+pub sharp-piece-body-asked : (bytes : List ℕ) (k : Piece) → AllSharp (pieceBodyAsked bytes k)
+unfolding pieceBodyAsked
+sharp-piece-body-asked bytes k = (sharp-demand _ _, (sharp-demand _ _, (sharp-each _ _ _, tt)))
 
 pub sharp-header-asked : (l : List ℕ) (n : ℕ) → AllSharp (headerAsked l n)
 unfolding headerAsked

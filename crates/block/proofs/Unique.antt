@@ -3,7 +3,6 @@ use mathlib.Core.Path.{_≡_, refl, sym, ap, subst, _∙_}
 use mathlib.Core.Bool.{Bool, true, false}
 use mathlib.Core.List.{List, _∷_}
 use Prim.Native.Nat.{ℕ}
-use lib.IntN.{ℤ}
 use native.Mathlib.Omega.{arith}
 use Rattle.rules.specs.Reach as rules
 use Rattle.rules.specs.Reach.{Piece}
@@ -27,15 +26,16 @@ use Rattle.block.specs.declared.HeaderRead.the-variants.{Count, NoHeader
 use Rattle.block.specs.declared.RunRead.{RunRead}
 use Rattle.block.specs.declared.RunRead.the-variants.{Found, NoRun}
 use Rattle.block.specs.declared.PieceRead.{PieceRead}
-use Rattle.block.specs.Layout.{words, headerBlock, runBlock, pieceBlock}
-use Rattle.block.specs.Reading.{lengthCheck, headerChecks, runBlockChecks, pieceBlockChecks, headerAsked, partsAsked, PartsIn, wordsAsked, runAsked, pieceAsked}
+use Rattle.block.specs.Layout.{headerBlock, runBody, runBlock, pieceBody, pieceBlock}
+use Rattle.block.specs.Reading.{lengthCheck, headerChecks, runBlockChecks, pieceBlockChecks, headerAsked, partsAsked, PartsIn, runBodyAsked, pieceBodyAsked, runAsked, pieceAsked}
 use Rattle.block.specs.Reading.{HeaderSays, RunSays, Holds, PieceFound, PieceSays}
-use Rattle.block.specs.Reading.{partsBlock, WriteHeaderSays, WriteRunSays, WritePieceSays, WritePartsSays, WriteWordsSays}
+use Rattle.block.specs.Reading.{partsBlock, WriteHeaderSays, WriteRunSays, WritePieceSays, WritePartsSays, WriteRunBodySays, WritePieceBodySays}
 use Rattle.block.specs.Verdicts.{VerdictOn, verdictInChecks, VerdictInSays}
 use Rattle.block.proofs.Headers.{header-passes, header-one}
 use Rattle.block.proofs.RunLaws as runs
 use Rattle.block.proofs.PieceLaws as pieces
-use Rattle.block.proofs.Sharp.{sharp-header, sharp-run-block, sharp-piece-block, sharp-verdict-in, sharp-parts-asked, sharp-words-asked, sharp-header-asked, sharp-run-asked, sharp-piece-asked}
+use Rattle.block.proofs.Sharp.{sharp-header, sharp-run-block, sharp-piece-block, sharp-verdict-in}
+use Rattle.block.proofs.Sharp.{sharp-parts-asked, sharp-run-body-asked, sharp-piece-body-asked, sharp-header-asked, sharp-run-asked, sharp-piece-asked}
 
 -- ---- writers
 pub write-parts-one : (first last : List ℕ) (at : ℕ) (before a b : List ℕ) (r s : Checked) → WritePartsSays first last at before a r → WritePartsSays first last at before b s → (r ≡ s) × (a ≡ b)
@@ -49,8 +49,11 @@ is-parts-one first last at l true false f g = absurd (g f)
 is-parts-one first last at l false true f g = absurd (f g)
 is-parts-one first last at l false false f g = refl
 
-pub write-words-one : (numbers : List ℤ) (before a b : List ℕ) (r s : Checked) → WriteWordsSays numbers before a r → WriteWordsSays numbers before b s → (r ≡ s) × (a ≡ b)
-write-words-one numbers before a b r s = writes-one (wordsAsked before numbers) (sharp-words-asked before numbers) (words numbers) before a b r s
+pub write-run-body-one : (run : rules.Run) (before a b : List ℕ) (r s : Checked) → WriteRunBodySays run before a r → WriteRunBodySays run before b s → (r ≡ s) × (a ≡ b)
+write-run-body-one run before a b r s = writes-one (runBodyAsked before run) (sharp-run-body-asked before run) (runBody run) before a b r s
+
+pub write-piece-body-one : (k : Piece) (before a b : List ℕ) (r s : Checked) → WritePieceBodySays k before a r → WritePieceBodySays k before b s → (r ≡ s) × (a ≡ b)
+write-piece-body-one k before a b r s = writes-one (pieceBodyAsked before k) (sharp-piece-body-asked before k) (pieceBody k) before a b r s
 
 pub write-header-one : (n : ℕ) (before a b : List ℕ) (r s : Checked) → WriteHeaderSays n before a r → WriteHeaderSays n before b s → (r ≡ s) × (a ≡ b)
 write-header-one n before a b r s = writes-one (headerAsked before n) (sharp-header-asked before n) (headerBlock n) before a b r s

@@ -15,6 +15,13 @@ blockSize = 512
 abbrev pub bodySize : ℕ
 bodySize = 510
 
+-- so many of them are the body of a run, and of a piece
+abbrev pub runBodySize : ℕ
+runBodySize = 14
+
+abbrev pub pieceBodySize : ℕ
+pieceBodySize = 267
+
 -- bytes 0 to 3 of a header are 52 4F 4F 4D, byte 4 the edition
 abbrev pub name : List ℕ
 name = 0x52 ∷ 0x4F ∷ 0x4F ∷ 0x4D ∷ []
@@ -97,9 +104,13 @@ runBlock r = blockOf (runKind ∷ 0 ∷ runBody r)
 abbrev pub pieceNumbers : Piece → List ℤ
 pieceNumbers k = k .bottom ∷ k .top ∷ k .speed .x ∷ k .speed .y ∷ k .speed .z ∷ k .corners
 
--- bytes 1 to 267 of a piece block: the corner count, the numbers, and zeros for the corners that it lacks
+-- bytes 1 and up of a piece block: the corner count and the numbers
+abbrev pub pieceFront : Piece → List ℕ
+pieceFront k = ring (k .corners) .size ∷ words (pieceNumbers k)
+
+-- bytes 1 to 267: then zeros for the corners that it lacks
 unfoldable pub pieceBody : Piece → List ℕ
-pieceBody k = filled 267 (ring (k .corners) .size ∷ words (pieceNumbers k))
+pieceBody k = filled pieceBodySize (pieceFront k)
 
 unfoldable pub pieceBlock : Piece → List ℕ
 pieceBlock k = blockOf (pieceKind ∷ pieceBody k)

@@ -1,7 +1,7 @@
 -- What reading and writing a block finds: the order of refusals, and what is answered. Assumes nothing.
 use mathlib.Core.Path.{_≡_}
 use mathlib.Core.List.{List, [], _∷_, _++_}
-use Prim.Native.Nat.{ℕ, _+_, _*_, _-_, _≤_, _<_}
+use Prim.Native.Nat.{ℕ, _+_, _*_, _-_, _%_, _≤_, _<_}
 use lib.IntN.{ℤ, pos, negsuc}
 use lib.ListN.{length, getD, replicate}
 use Rattle.rules.specs.Reach.{Between, Corners, Pieces, Run, Piece, piece}
@@ -20,7 +20,7 @@ use Rattle.block.specs.declared.RunRead.{RunRead}
 use Rattle.block.specs.declared.RunRead.the-variants.{Found, NoRun}
 use Rattle.block.specs.declared.PieceRead.{PieceRead}
 use Rattle.block.specs.Layout.{blockSize, bodySize, name, edition, pieceKind, runKind}
-use Rattle.block.specs.Layout.{byte, plainSum, weighedSum, words, headerBlock, runNumbers, runBlock, pieceNumbers, pieceBlock, filled, blockOf}
+use Rattle.block.specs.Layout.{runBodySize, pieceBodySize, byte, plainSum, weighedSum, headerBlock, runNumbers, runBody, runBlock, pieceNumbers, pieceBody, pieceBlock, filled, blockOf}
 
 -- ---- the checks of a block's own bytes
 -- a block has 512 bytes
@@ -190,16 +190,37 @@ pub record PartsIn (first last : List ℕ) (at : ℕ) (l : List ℕ) : Type 0 wh
   pub fit : PartsFit first last at
   pub same : l ≡ partsBlock first last at
 
--- numbers to be put into as many pairs of bytes; number i stands at byte 2·i
+-- the bytes of a run alone
+unfoldable pub runBodyAsked : List ℕ → Run → List Check
+runBodyAsked bytes r = demand (length bytes ≡ runBodySize) (refuse 1 0 0) ∷ runChecks r
+
+abbrev pub WriteRunBodySays : Run → List ℕ → List ℕ → Checked → Type 0
+WriteRunBodySays run before after r = Writes (runBodyAsked before run) (runBody run) before after r
+
+-- two numbers for each corner, and at most as many as a block holds
+pub record Paired (l : List ℤ) : Type 0 where
+  pub even : length l % 2 ≡ 0
+  pub most : length l ≤ 128
+
+-- two bytes do not hold number j
 abbrev pub Wide : List ℤ → ℕ → Type 0
 Wide numbers j = Word (getD numbers j (pos 0)) → ⊥
 
-unfoldable pub wordsAsked : List ℕ → List ℤ → List Check
-wordsAsked bytes numbers =
-    demand (length bytes ≡ 2 * length numbers) (refuse 1 0 0) ∷ each (Wide numbers) (length numbers) (λ i. refuse 4 (2 * i) 0) ∷ []
+-- the bytes of a piece alone, its shape unchecked; number i of a block stands at byte 2 + 2·i
+unfoldable pub pieceBodyAsked : List ℕ → Piece → List Check
+pieceBodyAsked bytes k =
+    demand (length bytes ≡ pieceBodySize) (refuse 1 0 0)
+    ∷ demand (Paired (k .corners)) (refuse 5 0 0)
+    ∷ each (Wide (pieceNumbers k)) (5 + length (k .corners)) (λ i. refuse 4 (2 + 2 * i) 0)
+    ∷ []
 
-abbrev pub WriteWordsSays : List ℤ → List ℕ → List ℕ → Checked → Type 0
-WriteWordsSays numbers before after r = Writes (wordsAsked before numbers) (words numbers) before after r
+abbrev pub WritePieceBodySays : Piece → List ℕ → List ℕ → Checked → Type 0
+WritePieceBodySays k before after r = Writes (pieceBodyAsked before k) (pieceBody k) before after r
+
+-- a block holds its numbers
+pub record Held (k : Piece) : Type 0 where
+  pub few : length (k .corners) ≤ 128
+  pub words : (j : ℕ) → j < 5 + length (k .corners) → Word (getD (pieceNumbers k) j (pos 0))
 
 -- a run or a piece in plain numbers
 unfoldable pub runAsked : List ℕ → Run → List Check

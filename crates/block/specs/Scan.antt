@@ -6,7 +6,7 @@ use lib.IntN.{ℤ, pos}
 use lib.ListN.{length, getD}
 use Rattle.piece.specs.declared.Run.{Run}
 use Rattle.piece.specs.declared.Band.{Band}
-use Rattle.block.specs.Layout.{blockSize, bodySize, byte, sum}
+use Rattle.block.specs.Layout.{bodySize, byte, sum}
 use Rattle.block.specs.Word.{Spelt}
 
 -- the first 510 bytes are the same
@@ -17,11 +17,11 @@ Alike l m = (i : ℕ) → i < bodySize → byte l i ≡ byte m i
 abbrev pub Clean : List ℕ → ℕ → ℕ → Type 0
 Clean l from to = (i : ℕ) → from ≤ i → i < to → byte l i ≡ 0
 
--- the bytes before here stay, and those up to the check become zero
-pub record Cleared (from : ℕ) (before after : List ℕ) : Type 0 where
-  pub long : length after ≡ blockSize
+-- the bytes before here stay, and those from here up to there become zero
+pub record Cleared (from to : ℕ) (before after : List ℕ) : Type 0 where
+  pub long : length after ≡ length before
   pub stays : (i : ℕ) → i < from → byte after i ≡ byte before i
-  pub zeros : Clean after from bodySize
+  pub zeros : Clean after from to
 
 -- the sums of bytes that stand in a block from byte `at` on, no remainder taken
 pub record SumsAt (l : List ℕ) (at plain weighed : ℕ) : Type 0 where

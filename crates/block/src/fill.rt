@@ -5,16 +5,14 @@ use crate::word::bits_of;
 use crate::word::fits;
 use crate::word::high;
 use crate::word::low;
-use refusal::Checked;
-use refusal::Refusal;
 ghost use mathlib.Core.Path.{_≡_};
 ghost use Prim.Native.Nat.{ℕ, suc, _+_, _*_, _/_, _%_, _≤_, _<_};
 ghost use lib.IntN.{pos};
 ghost use lib.ListN.{length, getD, set, take};
 ghost use Rattle.whole.specs.Front.{Front};
-ghost use Rattle.block.specs.Layout.{blockSize, bodySize, byte, word, words, blockOf};
+ghost use Rattle.block.specs.Layout.{blockSize, bodySize, word, words, blockOf};
 ghost use Rattle.whole.specs.Decide.{Seeks};
-ghost use Rattle.block.specs.Reading.{Word, Wide, WriteWordsSays};
+ghost use Rattle.block.specs.Reading.{Word, Wide};
 ghost use Rattle.block.specs.Scan.{Cleared};
 
 // The bytes from the begin of a list on.
@@ -29,13 +27,13 @@ pub(crate) fn copy(front: &[u8], block: &mut [u8])
     }
 }
 
-pub(crate) fn clear(block: &mut [u8], from: usize)
-    requires { ⌜ (from ≤ bodySize) × (length (now block) ≡ blockSize) ⌝ }
-    ensures { λ _. ⌜ Cleared from (now (block .entry)) (now (block .exit)) ⌝ }
+pub(crate) fn clear(bytes: &mut [u8], from: usize, to: usize)
+    requires { ⌜ (from ≤ to) × (to ≤ length (now bytes)) ⌝ }
+    ensures { λ _. ⌜ Cleared from to (now (bytes .entry)) (now (bytes .exit)) ⌝ }
 {
     let mut i = from;
-    while i < BODY {
-        block[i] = 0;
+    while i < to {
+        bytes[i] = 0;
         i += 1;
     }
 }
@@ -45,7 +43,7 @@ pub(crate) fn finish(block: &mut [u8], end: usize)
     requires { ⌜ (end ≤ bodySize) × (length (now block) ≡ blockSize) ⌝ }
     ensures { λ _. ⌜ now (block .exit) ≡ blockOf (take end (now (block .entry))) ⌝ }
 {
-    clear(block, end);
+    clear(block, end, BODY);
     seal(block);
 }
 
@@ -71,7 +69,8 @@ pub(crate) fn lay(numbers: &[i32], bytes: &mut [u8])
     }
 }
 
-fn first_wide(numbers: &[i32]) -> usize
+// The first number that two bytes do not hold; how many there are, where they hold all.
+pub(crate) fn first_wide(numbers: &[i32]) -> usize
     ensures { λ r. ⌜ Seeks (Wide (now (numbers .entry))) (length (now (numbers .entry))) r ⌝ }
 {
     let mut j = 0;
@@ -82,23 +81,4 @@ fn first_wide(numbers: &[i32]) -> usize
         j += 1;
     }
     j
-}
-
-// Any numbers of two bytes, for whoever lays them out.
-pub fn write_words(numbers: &[i32], bytes: &mut [u8]) -> Checked
-    ensures { λ r. ⌜ WriteWordsSays (now (numbers .entry)) (now (bytes .entry)) (now (bytes .exit)) r ⌝ }
-{
-    let size = bytes.len();
-    if size % 2 != 0 {
-        return Checked::Refused(Refusal::Length);
-    }
-    if size / 2 != numbers.len() {
-        return Checked::Refused(Refusal::Length);
-    }
-    let wide = first_wide(numbers);
-    if wide < numbers.len() {
-        return Checked::Refused(Refusal::Reach(2 * wide));
-    }
-    lay(numbers, bytes);
-    Checked::Good
 }

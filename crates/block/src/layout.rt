@@ -18,6 +18,11 @@ pub(crate) const EDITION: u8 = 1;
 // The most pieces of a room.
 pub(crate) const MOST: u32 = 126;
 
+// The lengths of a run's numbers in its block, bytes 2 to 15, and of a piece's, bytes 1 to 267 with the corner count first.
+pub(crate) const RUN_BODY: usize = 14;
+
+pub(crate) const PIECE_BODY: usize = 267;
+
 // Byte 0 of a piece block, and of a run block.
 pub(crate) const PIECE: u8 = 1;
 

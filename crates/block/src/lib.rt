@@ -12,7 +12,6 @@ mod sums;
 mod verdicts;
 mod word;
 
-pub use fill::write_words;
 pub use header::read_header;
 pub use header::write_header;
 pub use parts::is_parts;
@@ -21,10 +20,12 @@ use piece::Band;
 use piece::Run;
 pub use pieces::read_piece;
 pub use pieces::write_piece;
+pub use pieces::write_piece_body;
 use refusal::Checked;
 use refusal::Refusal;
 pub use runs::read_run;
 pub use runs::write_run;
+pub use runs::write_run_body;
 pub use verdicts::verdict_in;
 
 // A header's piece count.

@@ -66,7 +66,7 @@ fn lay_parts(first: &[u8], last: &[u8], at: usize, block: &mut [u8])
     ensures { λ _. ⌜ Alike (now (block .exit)) (filled at (now (first .entry)) ++ now (last .entry)) ⌝ }
 {
     let end = at + last.len();
-    clear(block, 0);
+    clear(block, 0, BODY);
     copy(first, block);
     copy(last, &mut block[at..end]);
 }

@@ -8,18 +8,12 @@ use Rattle.rules.specs.Refusal.{Passes, Fault}
 use Rattle.rules.specs.Good.{runChecks, pieceChecks}
 use Rattle.rules.specs.Verdict.{Verdict, verdictChecks, answer}
 use Rattle.refusal.specs.Said.{said}
-use Rattle.block.specs.Layout.{byte, filled, blockOf, pieceBody}
+use Rattle.block.specs.Layout.{byte, filled, blockOf}
 use Rattle.book.specs.declared.Asked.{Asked}
 use Rattle.book.specs.declared.Asked.the-variants.{Remembered, Worked, Refused}
 use Rattle.book.specs.declared.slot.Found.{Found}
 use Rattle.book.specs.declared.slot.Found.the-variants.{Code, Nothing}
-use Rattle.book.specs.Entry.{pieceLength, codeAt, question, four, opening, Possible, put}
-
--- the bytes of a good piece, and where its corners' numbers end
-pub record PieceLaid (k : Piece) (body : List ℕ) (end : ℕ) : Type 0 where
-  pub within : end ≤ pieceLength
-  pub bytes : Passes (pieceChecks k) → body ≡ pieceBody k
-  pub ends : Passes (pieceChecks k) → end ≡ 11 + 2 * length (k .corners)
+use Rattle.book.specs.Entry.{codeAt, question, four, opening, Possible, put}
 
 -- the first bytes of an entry before `end`, and zeros from there to the verdict
 unfoldable pub cleared : List ℕ → ℕ → List ℕ

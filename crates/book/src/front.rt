@@ -1,16 +1,16 @@
 // The bytes of an entry: kind, zero and the question, and apart from them the code.
-use block::write_words;
+use block::write_piece_body;
+use block::write_run_body;
 use piece::Band;
 use piece::Run;
+use refusal::Checked;
 ghost use mathlib.Core.Path.{_≡_};
 ghost use Prim.Native.Nat.{_+_, _%_, _<_};
-ghost use lib.ListN.{length, replicate};
-ghost use Rattle.rules.specs.Refusal.{Passes};
-ghost use Rattle.rules.specs.Good.{runChecks};
+ghost use lib.ListN.{length};
 ghost use Rattle.piece.specs.Numbers.{runOf, pieceOf};
-ghost use Rattle.block.specs.Layout.{byte, sum, runBody};
-ghost use Rattle.book.specs.Entry.{keyLength, pieceAt, pieceLength, codeAt, opening, four};
-ghost use Rattle.book.specs.Steps.{PieceLaid, Blank, Begun};
+ghost use Rattle.block.specs.Layout.{byte, sum};
+ghost use Rattle.book.specs.Entry.{keyLength, codeAt, four};
+ghost use Rattle.book.specs.Steps.{Blank, Begun};
 
 // Byte 0 of an entry.
 const KIND: u8 = 3;
@@ -24,42 +24,18 @@ const PIECE: usize = 16;
 // Where the verdict's begin.
 pub(crate) const CODE: usize = 2 + KEY;
 
-// Bytes 0 to 15: kind, zero, and the numbers as in the run block.
-fn lay_run(run: Run, head: &mut [u8])
-    requires { ⌜ Passes (runChecks (runOf run)) × (length (now head) ≡ pieceAt) ⌝ }
-    ensures { λ _. ⌜ now (head .exit) ≡ opening (runBody (runOf run)) ⌝ }
-{
-    let ticks = run.ticks as i32;
-    let numbers = [run.x, run.y, run.z, run.vx, run.vy, run.vz, ticks];
-    head[0] = KIND;
-    head[1] = 0;
-    write_words(&numbers, &mut head[2..PIECE]);
-}
-
-// The piece block's bytes 1 to 267, of every good piece; answers where its corners' numbers end.
-fn lay_piece(band: Band, corners: &[i32], body: &mut [u8]) -> usize
-    requires { ⌜ now body ≡ replicate pieceLength 0 ⌝ }
-    ensures { λ r. ⌜ PieceLaid (pieceOf band (now (corners .entry))) (now (body .exit)) r ⌝ }
-{
-    let size = corners.len();
-    if 128 < size {
-        return 0;
-    }
-    let numbers = [band.bottom, band.top, band.vx, band.vy, band.vz];
-    let end = 11 + 2 * size;
-    body[0] = (size / 2) as u8;
-    write_words(&numbers, &mut body[1..11]);
-    write_words(corners, &mut body[11..end]);
-    end
-}
-
-// Bytes 0 to 282; answers from where on they are zero.
+// Bytes 0 to 282, of every good piece: kind, zero, the run and the piece; answers from where on they are zero.
 pub(crate) fn lay(run: Run, band: Band, corners: &[i32], front: &mut [u8]) -> usize
     requires { ⌜ Blank (runOf run) (now front) ⌝ }
     ensures { λ r. ⌜ Begun (runOf run) (pieceOf band (now (corners .entry))) (now (front .exit)) r ⌝ }
 {
-    lay_run(run, &mut front[..PIECE]);
-    PIECE + lay_piece(band, corners, &mut front[PIECE..CODE])
+    front[0] = KIND;
+    front[1] = 0;
+    write_run_body(run, &mut front[2..PIECE]);
+    match write_piece_body(band, corners, &mut front[PIECE..CODE]) {
+        Checked::Refused(_) => PIECE,
+        Checked::Good => PIECE + 11 + 2 * corners.len(),
+    }
 }
 
 // The code, low byte first.

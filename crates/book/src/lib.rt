@@ -9,11 +9,11 @@ use crate::slot::Found;
 use crate::slot::keep;
 use crate::slot::look;
 use piece::Band;
-use piece::NONE;
+use piece::Coded;
 use piece::Run;
-use piece::Verdict;
 use piece::check_piece;
 use piece::check_run;
+use piece::coded;
 use piece::verdict;
 use refusal::Checked;
 use refusal::Refusal;
@@ -44,10 +44,9 @@ fn work(
     requires { ⌜ (512 * suc at ≤ length (now book)) × Cut (now front) end ⌝ }
     ensures { λ r. ⌜ Works (now (book .entry)) (now (book .exit)) at (cleared (now (front .entry)) end) (runOf run) (pieceOf band (now (corners .entry))) r ⌝ }
 {
-    let code = match verdict(run, band, corners) {
-        Verdict::Refused(x) => return Asked::Refused(x),
-        Verdict::Clear => NONE,
-        Verdict::Mark(m) => m,
+    let code = match coded(verdict(run, band, corners)) {
+        Coded::Refused(x) => return Asked::Refused(x),
+        Coded::Code(c) => c,
     };
     keep(book, at, front, end, code);
     Asked::Worked(code)

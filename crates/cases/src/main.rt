@@ -3,6 +3,7 @@
 use intake::Taken;
 use libc::STDOUT_FILENO;
 use piece::Band;
+use piece::Coded;
 use piece::NONE;
 use piece::Placed;
 use piece::Run;
@@ -69,10 +70,9 @@ fn band(vx: i32) -> Band {
 
 // A mark, or NONE for clear, or one less for a refusal.
 fn told(v: Verdict) -> u32 {
-    match v {
-        Verdict::Clear => NONE,
-        Verdict::Mark(m) => m,
-        Verdict::Refused(_) => 0xFFFF_FFFE,
+    match piece::coded(v) {
+        Coded::Code(c) => c,
+        Coded::Refused(_) => 0xFFFF_FFFE,
     }
 }
 

@@ -1,30 +1,56 @@
--- At most one verdict is told. Assumes nothing.
-use mathlib.Core.Path.{_≡_, refl, ap}
+-- At most one verdict is told, and its code answers as the rules read a code. Assumes nothing.
+use mathlib.Core.Path.{_≡_, refl}
+use mathlib.Core.Logic.{_⊎_, inl, inr}
+use Prim.Native.Nat.{ℕ, _≤_}
+use native.Mathlib.Omega.{arith}
 use Rattle.rules.specs.Reach.{Run, Piece}
-use Rattle.rules.specs.Verdict.{Answer, clear, blocked, verdictChecks}
-use Rattle.rules.proofs.Checks.{never-both}
+use Rattle.rules.specs.Refusal.{Passes, Fault}
+use Rattle.rules.specs.Good.{runChecks, pieceChecks}
+use Rattle.rules.specs.Verdict as rules
+use Rattle.rules.specs.Verdict.{Answer, clear, blocked, verdictChecks, NONE, answer}
+use Rattle.rules.proofs.Checks.{passes-left}
 use Rattle.rules.proofs.Good.{sharp-verdict}
-use Rattle.rules.proofs.Verdict.{one-verdict}
+use Rattle.rules.proofs.Reach.{run-known}
+use Rattle.rules.proofs.Verdict.{one-verdict, mark-small, mark-answers}
+use Rattle.refusal.specs.declared.Refusal.{Refusal}
 use Rattle.refusal.specs.Said.{said}
-use Rattle.refusal.proofs.Unique.{refused-one}
+use Rattle.refusal.proofs.Unique.{told-one}
 use Rattle.piece.specs.declared.motion.Verdict.{Verdict}
 use Rattle.piece.specs.declared.motion.Verdict.the-variants.{Clear, Mark, Refused}
-use Rattle.piece.specs.Tells.{Tells}
+use Rattle.piece.specs.declared.motion.Coded.{Coded}
+use Rattle.piece.specs.declared.motion.Coded.the-variants as coded
+use Rattle.piece.specs.Tells.{answerOf, Tells, codedOf}
 
--- an answer as the code's enum has it
-case : Answer → Verdict
-case clear = Clear
-case (blocked m) = Mark m
+-- an answer or a refusal as the enum has it
+case : Answer ⊎ Refusal → Verdict
+case (inl clear) = Clear
+case (inl (blocked m)) = Mark m
+case (inr x) = Refused x
 
-module _ (r : Run) (k : Piece) where
-  pub one-told : (v w : Verdict) → Tells r k v → Tells r k w → v ≡ w
-  unfolding case
-  one-told Clear Clear h g = refl
-  one-told Clear (Mark n) h g = ap case (one-verdict r k clear (blocked n) (h .1) (g .1))
-  one-told Clear (Refused y) h g = absurd (never-both (verdictChecks r k) (sharp-verdict r k) (said y) (h .0) g)
-  one-told (Mark m) Clear h g = ap case (one-verdict r k (blocked m) clear (h .1) (g .1))
-  one-told (Mark m) (Mark n) h g = ap case (one-verdict r k (blocked m) (blocked n) (h .1) (g .1))
-  one-told (Mark m) (Refused y) h g = absurd (never-both (verdictChecks r k) (sharp-verdict r k) (said y) (h .0) g)
-  one-told (Refused x) Clear h g = absurd (never-both (verdictChecks r k) (sharp-verdict r k) (said x) (g .0) h)
-  one-told (Refused x) (Mark n) h g = absurd (never-both (verdictChecks r k) (sharp-verdict r k) (said x) (g .0) h)
-  one-told (Refused x) (Refused y) h g = ap Refused (refused-one (verdictChecks r k) (sharp-verdict r k) x y h g)
+same : (v : Verdict) → case (answerOf v) ≡ v
+unfolding case
+same Clear = refl
+same (Mark m) = refl
+same (Refused x) = refl
+
+pub one-told : (r : Run) (k : Piece) (v w : Verdict) → Tells r k v → Tells r k w → v ≡ w
+one-told r k = told-one answerOf case same (verdictChecks r k) (sharp-verdict r k) (rules.Verdict r k) (one-verdict r k)
+
+-- ---- codes
+-- a code that is told of a good run and a good piece
+pub record Answers (r : Run) (k : Piece) (c : ℕ) : Type 0 where
+  pub passes : Passes (verdictChecks r k)
+  pub most : c ≤ NONE
+  pub verdict : rules.Verdict r k (answer c)
+
+abbrev pub TellsCode : Run → Piece → Coded → Type 0
+TellsCode r k (coded.Code c) = Answers r k c
+TellsCode r k (coded.Refused x) = Fault (verdictChecks r k) (said x)
+
+pub tells-code : (r : Run) (k : Piece) (v : Verdict) → Tells r k v → TellsCode r k (codedOf v)
+unfolding verdictChecks
+tells-code r k Clear h = record { passes = h .0; most = omega arith; verdict = h .1 }
+tells-code r k (Mark m) h =
+    let s = mark-small r k m (run-known r (passes-left (runChecks r) (pieceChecks k) (h .0)) 6 (omega arith)) (h .1) in
+    record { passes = h .0; most = omega arith; verdict = mark-answers r k m s (h .1) }
+tells-code r k (Refused x) h = h

@@ -1,22 +1,27 @@
 -- At most one answer meets the promise of each public call. Assumes nothing.
-use mathlib.Core.Path.{_≡_, ap}
+use mathlib.Core.Path.{_≡_, refl}
+use mathlib.Core.Logic.{_⊎_, inl, inr}
 use mathlib.Core.List.{List}
 use lib.IntN.{ℤ}
 use Rattle.rules.specs.Ring.{Pt, ring}
 use Rattle.rules.specs.Good.{runChecks, pieceChecks}
-use Rattle.rules.specs.Place.{Where, on, inside, outside, placeChecks}
-use Rattle.rules.proofs.Checks.{never-both}
+use Rattle.rules.specs.Place.{Where, on, inside, outside, Place, placeChecks}
 use Rattle.rules.proofs.Good.{sharp-run, sharp-piece, sharp-place}
 use Rattle.decide.proofs.Parity.{one-place}
-use Rattle.refusal.specs.Said.{said, Finds}
+use Rattle.refusal.specs.Said.{Finds}
+use Rattle.refusal.specs.declared.Refusal.{Refusal}
 use Rattle.refusal.specs.declared.Checked.{Checked}
-use Rattle.refusal.proofs.Unique.{refused-one, finds-one}
+use Rattle.refusal.proofs.Unique.{finds-one, told-one}
+use Rattle.footprint.proofs.Unique.{equal-one}
 use Rattle.piece.specs.declared.Run.{Run}
 use Rattle.piece.specs.declared.Band.{Band}
 use Rattle.piece.specs.declared.Placed.{Placed}
 use Rattle.piece.specs.declared.Placed.the-variants.{On, Inside, Outside, Refused}
+use Rattle.piece.specs.declared.motion.Verdict.{Verdict}
+use Rattle.piece.specs.declared.motion.Coded.{Coded}
 use Rattle.piece.specs.Numbers.{runOf, pieceOf}
-use Rattle.piece.specs.Place.{Lies}
+use Rattle.piece.specs.Place.{placeOf, Lies}
+use Rattle.piece.specs.Tells.{codedOf}
 
 pub check-run-one : (run : Run) (r s : Checked) → Finds (runChecks (runOf run)) r → Finds (runChecks (runOf run)) s → r ≡ s
 check-run-one run = finds-one (runChecks (runOf run)) (sharp-run (runOf run))
@@ -24,27 +29,22 @@ check-run-one run = finds-one (runChecks (runOf run)) (sharp-run (runOf run))
 pub check-piece-one : (band : Band) (l : List ℤ) (r s : Checked) → Finds (pieceChecks (pieceOf band l)) r → Finds (pieceChecks (pieceOf band l)) s → r ≡ s
 check-piece-one band l = finds-one (pieceChecks (pieceOf band l)) (sharp-piece (pieceOf band l))
 
--- the answer of a place
-answer : Where → Placed
-answer on = On
-answer inside = Inside
-answer outside = Outside
+-- a place or a refusal as the enum has it
+case : Where ⊎ Refusal → Placed
+case (inl on) = On
+case (inl inside) = Inside
+case (inl outside) = Outside
+case (inr x) = Refused x
+
+same : (r : Placed) → case (placeOf r) ≡ r
+unfolding case
+same On = refl
+same Inside = refl
+same Outside = refl
+same (Refused x) = refl
 
 pub place-one : (p : Pt) (l : List ℤ) (r s : Placed) → Lies p l r → Lies p l s → r ≡ s
-unfolding answer
-place-one p l On On h k = ap answer (one-place (ring l) p on on (h .1) (k .1))
-place-one p l On Inside h k = ap answer (one-place (ring l) p on inside (h .1) (k .1))
-place-one p l On Outside h k = ap answer (one-place (ring l) p on outside (h .1) (k .1))
-place-one p l Inside On h k = ap answer (one-place (ring l) p inside on (h .1) (k .1))
-place-one p l Inside Inside h k = ap answer (one-place (ring l) p inside inside (h .1) (k .1))
-place-one p l Inside Outside h k = ap answer (one-place (ring l) p inside outside (h .1) (k .1))
-place-one p l Outside On h k = ap answer (one-place (ring l) p outside on (h .1) (k .1))
-place-one p l Outside Inside h k = ap answer (one-place (ring l) p outside inside (h .1) (k .1))
-place-one p l Outside Outside h k = ap answer (one-place (ring l) p outside outside (h .1) (k .1))
-place-one p l On (Refused s) h k = absurd (never-both (placeChecks p l) (sharp-place p l) (said s) (h .0) k)
-place-one p l Inside (Refused s) h k = absurd (never-both (placeChecks p l) (sharp-place p l) (said s) (h .0) k)
-place-one p l Outside (Refused s) h k = absurd (never-both (placeChecks p l) (sharp-place p l) (said s) (h .0) k)
-place-one p l (Refused r) On h k = absurd (never-both (placeChecks p l) (sharp-place p l) (said r) (k .0) h)
-place-one p l (Refused r) Inside h k = absurd (never-both (placeChecks p l) (sharp-place p l) (said r) (k .0) h)
-place-one p l (Refused r) Outside h k = absurd (never-both (placeChecks p l) (sharp-place p l) (said r) (k .0) h)
-place-one p l (Refused r) (Refused s) h k = ap Refused (refused-one (placeChecks p l) (sharp-place p l) r s h k)
+place-one p l = told-one placeOf case same (placeChecks p l) (sharp-place p l) (Place (ring l) p) (one-place (ring l) p)
+
+pub coded-one : (v : Verdict) (r s : Coded) → r ≡ codedOf v → s ≡ codedOf v → r ≡ s
+coded-one v = equal-one (codedOf v)

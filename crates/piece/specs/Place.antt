@@ -1,11 +1,12 @@
 -- Where a point lies, in the enums' words. Assumes nothing.
+use mathlib.Core.Logic.{_⊎_, inl, inr}
 use mathlib.Core.List.{List}
 use Prim.Native.Nat.{_≤_}
 use lib.IntN.{ℤ, natAbs}
 use Rattle.rules.specs.Ring.{Pt, ring}
-use Rattle.rules.specs.Refusal.{Passes, Fault}
 use Rattle.rules.specs.Place.{Where, on, inside, outside, Place, placeChecks}
-use Rattle.refusal.specs.Said.{said}
+use Rattle.refusal.specs.declared.Refusal.{Refusal}
+use Rattle.refusal.specs.Said.{Told}
 use Rattle.piece.specs.declared.Placed.{Placed}
 use Rattle.piece.specs.declared.Placed.the-variants as placed
 use Rattle.piece.specs.declared.spot.Point.{Point}
@@ -18,12 +19,15 @@ pt x y = record { x = x; y = y }
 abbrev pub ptOf : Point → Pt
 ptOf p = pt (p .x) (p .y)
 
+abbrev pub placeOf : Placed → Where ⊎ Refusal
+placeOf placed.On = inl on
+placeOf placed.Inside = inl inside
+placeOf placed.Outside = inl outside
+placeOf (placed.Refused r) = inr r
+
 -- a good footprint and one of three places, or the refusal
 abbrev pub Lies : Pt → List ℤ → Placed → Type 0
-Lies p l placed.On = Passes (placeChecks p l) × Place (ring l) p on
-Lies p l placed.Inside = Passes (placeChecks p l) × Place (ring l) p inside
-Lies p l placed.Outside = Passes (placeChecks p l) × Place (ring l) p outside
-Lies p l (placed.Refused r) = Fault (placeChecks p l) (said r)
+Lies p l r = Told (placeChecks p l) (Place (ring l) p) (placeOf r)
 
 abbrev pub whereOf : Spot → Where
 whereOf spot.On = on

@@ -11,12 +11,15 @@ ghost use Rattle.piece.specs.Numbers.{runOf, pieceOf};
 ghost use Rattle.piece.specs.Place.{pt, Lies};
 ghost use Rattle.piece.specs.Tells.{Tells};
 
+mod code;
 mod motion;
 mod number;
 mod reach;
 mod span;
 mod spot;
 
+pub use code::coded;
+pub use motion::Coded;
 pub use motion::Verdict;
 
 // Clear, as a verdict is coded: no mark is as large.

@@ -39,6 +39,12 @@ pub enum Verdict {
     Refused(Refusal),
 }
 
+// A verdict as a number: the mark, or NONE; or the refusal.
+pub enum Coded {
+    Code(u32),
+    Refused(Refusal),
+}
+
 // A point and its velocity against the piece's.
 pub(crate) struct Motion {
     pub(crate) x: i64,

@@ -1,13 +1,14 @@
 -- A refusal can be told from what it says, so sharp checks find at most one answer. Assumes nothing.
 use mathlib.Core.Path.{_≡_, refl, sym, ap, _∙_}
 use mathlib.Core.Bool.{cond}
+use mathlib.Core.Logic.{_⊎_, inl, inr}
 use mathlib.Core.List.{List}
 use Prim.Native.Nat.{ℕ}
 use lib.Dec.{eqb}
 use Rattle.rules.specs.Refusal as rules
 use Rattle.rules.specs.Refusal.{Check as Test, Passes, Fault}
 use Rattle.rules.proofs.Checks.{AllSharp, never-both, one-fault}
-use Rattle.refusal.specs.Said.{said, RowOf, Finds, Writes}
+use Rattle.refusal.specs.Said.{said, RowOf, Finds, Told, Writes}
 use Rattle.refusal.specs.declared.Refusal.{Refusal}
 use Rattle.refusal.specs.declared.Refusal.the-variants.{Length, Check, Kind, Reach, Corners, Same, Fold, Meet, Clockwise, Short, NotNumber, Beyond, OffGrid, Line, Index, Face}
 use Rattle.refusal.specs.declared.Row.{Row}
@@ -52,6 +53,18 @@ finds-one cs a Good Good h i = refl
 finds-one cs a Good (Refused s) h i = absurd (never-both cs a (said s) h i)
 finds-one cs a (Refused r) Good h i = absurd (never-both cs a (said r) i h)
 finds-one cs a (Refused r) (Refused s) h i = ap Refused (refused-one cs a r s h i)
+
+-- one answer is told, where P says one
+told-same : {A : Type 0} (cs : List Test) → AllSharp cs → (P : A → Type 0) → ((a b : A) → P a → P b → a ≡ b) → (r s : A ⊎ Refusal) → Told cs P r → Told cs P s → r ≡ s
+told-same cs h P one (inl a) (inl b) f g = ap inl (one a b (f .1) (g .1))
+told-same cs h P one (inl a) (inr y) f g = absurd (never-both cs h (said y) (f .0) g)
+told-same cs h P one (inr x) (inl b) f g = absurd (never-both cs h (said x) (g .0) f)
+told-same cs h P one (inr x) (inr y) f g = ap inr (refused-one cs h x y f g)
+
+-- an enum that has the answers and the refusals as its cases
+module _ {A E : Type 0} (has : E → A ⊎ Refusal) (make : A ⊎ Refusal → E) (made : (e : E) → make (has e) ≡ e) where
+  pub told-one : (cs : List Test) → AllSharp cs → (P : A → Type 0) → ((a b : A) → P a → P b → a ≡ b) → (r s : E) → Told cs P (has r) → Told cs P (has s) → r ≡ s
+  told-one cs h P one r s f g = sym (made r) ∙ ap make (told-same cs h P one (has r) (has s) f g) ∙ made s
 
 -- what was written is one too
 pub writes-one : {A : Type 0} (cs : List Test) → AllSharp cs → (made before a b : A) (r s : Checked) → Writes cs made before a r → Writes cs made before b s → (r ≡ s) × (a ≡ b)

@@ -1,5 +1,6 @@
 -- What each case of the enum says: the number and the places of the table. Assumes nothing.
 use mathlib.Core.Path.{_≡_}
+use mathlib.Core.Logic.{_⊎_, inl, inr}
 use mathlib.Core.List.{List}
 use Rattle.rules.specs.Refusal as rules
 use Rattle.rules.specs.Refusal.{refuse, Check as Test, Passes, Fault}
@@ -35,6 +36,11 @@ RowOf x r = (r .0 ≡ said x .number) × (r .1 ≡ said x .a) × (r .2 ≡ said 
 abbrev pub Finds : List Test → Checked → Type 0
 Finds cs Good = Passes cs
 Finds cs (Refused r) = Fault cs (said r)
+
+-- what is told: of what the checks pass, an answer that P says; otherwise the first fault
+abbrev pub Told : {A : Type 0} → List Test → (A → Type 0) → A ⊎ Refusal → Type 0
+Told cs P (inl a) = Passes cs × P a
+Told cs P (inr x) = Fault cs (said x)
 
 -- writing what the checks pass makes what was asked for; otherwise the first fault is answered and all is as it was
 abbrev pub Writes : {A : Type 0} → List Test → A → A → A → Checked → Type 0

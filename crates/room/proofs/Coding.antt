@@ -19,8 +19,11 @@ use Rattle.rules.proofs.Verdict.{mark-small, mark-answers}
 use Rattle.refusal.specs.declared.Refusal.{Refusal}
 use Rattle.refusal.specs.declared.Refusal.the-variants.{Short}
 use Rattle.refusal.specs.Said.{said}
+use Rattle.piece.specs.declared.motion.Verdict.{Verdict}
+use Rattle.piece.specs.declared.motion.Verdict.the-variants as verdict
+use Rattle.piece.specs.Tells.{codedOf}
 use Rattle.block.specs.Reading.{pieceBlockChecks}
-use Rattle.block.specs.Verdicts.{VerdictOn, verdictInChecks}
+use Rattle.block.specs.Verdicts.{VerdictOn, verdictInChecks, VerdictInSays}
 use Rattle.block.proofs.Blocks.{nth-length}
 use Rattle.block.proofs.PieceLaws.{block-passes}
 use Rattle.block.proofs.VerdictLaws.{block-refused}
@@ -28,12 +31,12 @@ use Rattle.block.specs.Layout.{blockAt}
 use Rattle.room.specs.Image.{count, saidIn, headChecks, Has, FirstRefused, piecesCheck, roomChecks}
 use Rattle.room.specs.declared.Counted.the-variants.{Refused}
 use Rattle.room.specs.Verdicts.{verdictsChecks, CodeOf, Filled, VerdictsSay}
-use Rattle.room.specs.Codes.{CodesTo, AllCoded}
+use Rattle.room.specs.Codes.{CodeFound, CodesTo, AllCoded}
 use Rattle.room.proofs.Images.{fault-zero, few-pieces, has-long}
 
 -- ---- the code of a piece
 module _ (r : Run) (image : List ℕ) (i : ℕ) where
-  pub code-mark : (k : ℕ) → VerdictOn r (blockAt image (suc i)) (blocked k) → CodeOf r image i k
+  code-mark : (k : ℕ) → VerdictOn r (blockAt image (suc i)) (blocked k) → CodeOf r image i k
   code-mark k v = record {
     run = v .run;
     piece = v .piece;
@@ -43,10 +46,15 @@ module _ (r : Run) (image : List ℕ) (i : ℕ) where
   }
 
   -- the run is good and the block whole, so what the block says is refused
-  pub code-none : Passes (runChecks r) → Has image i → (x : Refusal) → Fault (verdictInChecks r (blockAt image (suc i))) (said x) → Fault (pieceBlockChecks (blockAt image (suc i))) (said x)
+  code-none : Passes (runChecks r) → Has image i → (x : Refusal) → Fault (verdictInChecks r (blockAt image (suc i))) (said x) → Fault (pieceBlockChecks (blockAt image (suc i))) (said x)
   code-none good has x f =
       let h = has-long image i has in
       block-refused r (blockAt image (suc i)) (nth-length image (suc i) (omega arith)) x good f
+
+  pub code-found : Passes (runChecks r) → Has image i → (v : Verdict) → VerdictInSays r (blockAt image (suc i)) v → CodeFound r image i (codedOf v)
+  code-found good has verdict.Clear h = h
+  code-found good has (verdict.Mark k) h = code-mark k h
+  code-found good has (verdict.Refused x) h = code-none good has x h
 
 -- a piece that has a code passes
 pub code-passes : (r : Run) (image : List ℕ) (i c : ℕ) → CodeOf r image i c → Passes (pieceBlockChecks (blockAt image (suc i)))

@@ -6,11 +6,11 @@ use lib.ListN.{getD}
 use Rattle.rules.specs.Reach.{Run}
 use Rattle.rules.specs.Refusal.{Passes, Fault}
 use Rattle.refusal.specs.Said.{said}
+use Rattle.piece.specs.declared.motion.Coded.{Coded}
+use Rattle.piece.specs.declared.motion.Coded.the-variants as coded
 use Rattle.block.specs.Reading.{pieceBlockChecks}
 use Rattle.room.specs.declared.Counted.{Counted}
 use Rattle.room.specs.declared.Counted.the-variants.{Count, Refused}
-use Rattle.room.specs.declared.pass.Coded.{Coded}
-use Rattle.room.specs.declared.pass.Coded.the-variants.{Code, NoPiece}
 use Rattle.room.specs.declared.pass.Codes.{Codes}
 use Rattle.block.specs.Layout.{blockAt}
 use Rattle.room.specs.Image.{count, saidIn, roomChecks}
@@ -18,8 +18,8 @@ use Rattle.room.specs.Verdicts.{CodeOf}
 
 -- piece i
 abbrev pub CodeFound : Run → List ℕ → ℕ → Coded → Type 0
-CodeFound r image i (Code c) = CodeOf r image i c
-CodeFound r image i (NoPiece x) = Fault (pieceBlockChecks (blockAt image (suc i))) (said x)
+CodeFound r image i (coded.Code c) = CodeOf r image i c
+CodeFound r image i (coded.Refused x) = Fault (pieceBlockChecks (blockAt image (suc i))) (said x)
 
 -- the pieces below n have their codes
 abbrev pub CodesTo : Run → List ℕ → List ℕ → ℕ → Type 0

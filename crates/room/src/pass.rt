@@ -2,10 +2,10 @@
 use crate::Counted;
 use crate::image::head;
 use block::verdict_in;
-use piece::NONE;
+use piece::Coded;
 use piece::Run;
-use piece::Verdict;
 use piece::check_run;
+use piece::coded;
 use refusal::Checked;
 use refusal::Refusal;
 ghost use Prim.Native.Nat.{_≤_};
@@ -18,29 +18,20 @@ ghost use Rattle.room.specs.Codes.{CodeFound, CodesSay};
 ghost use Rattle.room.specs.Image.{HeadGood, Has};
 ghost use Rattle.room.specs.Verdicts.{VerdictsSay};
 
-// The verdict on one piece, coded.
-pub(crate) enum Coded {
-    Code(u32),
-    NoPiece(Refusal),
-}
-
 // The verdicts on the pieces of a room, coded.
 pub(crate) struct Codes {
     pub(crate) found: Counted,
     pub(crate) codes: [u32; 126],
 }
 
+// The verdict on one piece, coded.
 fn code_of(run: Run, image: &[u8], i: usize) -> Coded
     requires { ⌜ Passes (runChecks (runOf run)) × Has (now image) i ⌝ }
     ensures { λ r. ⌜ CodeFound (runOf run) (now (image .entry)) i r ⌝ }
 {
     let from = 512 * (i + 1);
     let to = from + 512;
-    match verdict_in(run, &image[from..to]) {
-        Verdict::Clear => Coded::Code(NONE),
-        Verdict::Mark(k) => Coded::Code(k),
-        Verdict::Refused(x) => Coded::NoPiece(x),
-    }
+    coded(verdict_in(run, &image[from..to]))
 }
 
 // Piece by piece.
@@ -53,7 +44,7 @@ fn codes_of(run: Run, image: &[u8], n: usize) -> Codes
     while i < n {
         match code_of(run, image, i) {
             Coded::Code(c) => codes[i] = c,
-            Coded::NoPiece(x) => {
+            Coded::Refused(x) => {
                 let found = Counted::Refused(x, i + 1);
                 return Codes { found, codes };
             }

@@ -34,9 +34,9 @@ pub record InBand (z : ℤ) (k : Piece) (t : Frac) : Type 0 where
   pub top : z ≤ℤ along t (k .top) (k .speed .z)
 
 -- a point at a height, whatever path it goes: on or inside, and within the band
-pub record Meets (p : Pt) (z : ℤ) (k : Piece) (t : Frac) : Type 0 where
+pub record ContactAt (p : Pt) (z : ℤ) (k : Piece) (t : Frac) : Type 0 where
   pub place : OnOrInside (ringAt k t) p
   pub band : InBand z k t
 
 abbrev pub Contact : Run → Piece → Frac → Type 0
-Contact r k t = Meets (pointAt r t) (heightAt r t) k t
+Contact r k t = ContactAt (pointAt r t) (heightAt r t) k t

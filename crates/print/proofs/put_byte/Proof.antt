@@ -1,6 +1,5 @@
 -- `print::put_byte` meets its contract: the byte is stored where the buffer has its place. Assumes nothing.
 use native.Mathlib.Omega.{arith}
-use denote.Ref.{now}
 use borrow.Author.Needs.{needs}
 use Rattle.print.proofs.Put.{byte, no-byte}
 use Rattle.print.proofs.put_byte.Statement.{statement}

@@ -1,22 +1,32 @@
 -- `baker::code::verdict` meets its contract. Assumes nothing.
-use Rattle.baker.specs.Coded.{verdictCode}
+use mathlib.Core.Path.{_≡_, refl, sym, _∙_}
+use Prim.Native.Nat.{ℕ}
+use Rattle.piece.specs.declared.motion.Coded.{Coded}
+use Rattle.piece.specs.declared.motion.Coded.the-variants.{Code, Refused}
+use Rattle.baker.specs.Coded.{codedMeans, verdictCode, codeOf}
 use Rattle.baker.proofs.Codes.{by}
 use borrow.Author.Needs.{needs}
 use Rattle.baker.proofs.code.verdict.Statement.{statement}
 use Rattle.baker.proofs.code.verdict.Tie as tie
 
-returns-3 : tie.Need-returns-3
-returns-3 c = by verdictCode (c .before .before .r2 .given .1) (c .refusal .ensures)
+-- what is made of the code is made of the verdict
+known : (c : tie.After-coded) (x : Coded) → c .coded .result ≡ x → (n : ℕ) → n ≡ codeOf (codedMeans x) → n ≡ verdictCode (c .before .args .r)
+known c x e n h = by (λ x. codeOf (codedMeans x)) (sym (c .coded .ensures) ∙ e) h
+
+returns : tie.Need-returns
+returns c = known (c .before .before .before) (Code (c .before .c .given .0 .0)) (c .before .c .given .1) _ refl
+
+returns-2 : tie.Need-returns-2
+returns-2 c = known (c .before .before .before .before) (Refused (c .before .before .x .given .0 .0)) (c .before .before .x .given .1) _ (c .refusal .ensures)
 
 pub verdict-spec : {M : Type 1} → statement M
 verdict-spec =
     tie.close
     (tie.spec
-    (λ c. search needs)
+    (λ c κs. search needs)
     (λ c. search needs)
     (λ c. search needs)
     (λ c. search needs)
     (λ c κs. search needs)
-    (λ c. search needs)
-    (λ c. search needs)
-    returns-3)
+    returns
+    returns-2)

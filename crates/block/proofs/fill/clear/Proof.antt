@@ -5,22 +5,23 @@ use borrow.Author.Needs.{needs}
 use native.Mathlib.Omega.{arith}
 use lib.ListN.{length, length-set}
 use lib.Seq.{getD-set-other}
-use Rattle.block.specs.Layout.{blockSize, bodySize, byte}
+use Rattle.block.specs.Layout.{byte}
+use Rattle.block.specs.Scan.{Clean}
 use Rattle.block.proofs.Pairs.{cleared}
 use Rattle.block.proofs.fill.clear.Statement.{statement}
 use Rattle.block.proofs.fill.clear.Tie as tie
 
 abbrev Inv-loop : tie.InvT-loop
-Inv-loop block₀ from i₀ block i = (length block ≡ blockSize) × (from ≤ i) × (i ≤ bodySize) × ((k : ℕ) → k < from → byte block k ≡ byte block₀ k) × ((k : ℕ) → from ≤ k → k < i → byte block k ≡ 0)
+Inv-loop bytes₀ from to i₀ bytes i = (length bytes ≡ length bytes₀) × (from ≤ i) × (i ≤ to) × ((k : ℕ) → k < from → byte bytes k ≡ byte bytes₀ k) × Clean bytes from i
 
 abbrev μ-loop : tie.MeasureT-loop
-μ-loop block₀ from i₀ block i = bodySize - i
+μ-loop bytes₀ from to i₀ bytes i = to - i
 
 loop-holds : tie.Need-loop-holds Inv-loop μ-loop
 loop-holds c = (search needs, omega arith, omega arith, λ k h. refl, λ k g h. absurd (omega arith))
 
-slice-write-block : tie.Need-slice-write-block Inv-loop μ-loop
-slice-write-block c = omega arith
+slice-write-bytes : tie.Need-slice-write-bytes Inv-loop μ-loop
+slice-write-bytes c = omega arith
 
 add-i : tie.Need-add-i Inv-loop μ-loop
 add-i c = omega arith
@@ -31,7 +32,7 @@ loop-less c = omega arith
 loop-again : tie.Need-loop-again Inv-loop μ-loop
 loop-again c =
     let v = c .before .loop in
-    (simp length-set (v .inv .0), omega arith, omega arith, λ k h. getD-set-other (v .block) (v .i) k 0 0 (λ e. omega arith) ∙ v .inv .3 k h, cleared (v .block) _ (v .i) (omega arith) (v .inv .4))
+    (simp length-set (v .inv .0), omega arith, omega arith, λ k h. getD-set-other (v .bytes) (v .i) k 0 0 (λ e. omega arith) ∙ v .inv .3 k h, cleared (v .bytes) _ (v .i) (omega arith) (v .inv .4))
 
 same-length : tie.Need-same-length Inv-loop μ-loop
 same-length c = omega arith
@@ -46,7 +47,7 @@ clear-spec =
     Inv-loop
     μ-loop
     loop-holds
-    slice-write-block
+    slice-write-bytes
     add-i
     loop-less
     loop-again

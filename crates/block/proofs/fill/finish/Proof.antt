@@ -26,7 +26,7 @@ returns c =
     let d = c .before .before .before .before .before .before .clear in let b = c .before .before .before .before .before .before .before .before .before in
     let l = now (b .args .block) in let n = b .args .end in
     c .before .before .seal .ensures
-    ∙ sealing-is (d .last .0) (d .ensures .long) (take n l) (omega (arith, length-take n l))
+    ∙ sealing-is (d .last .0) (d .ensures .long ∙ b .pre .1) (take n l) (omega (arith, length-take n l))
     (λ i h. ⊎-elim
     (λ (g : n ≤ i). d .ensures .zeros i g h ∙ sym (List·getD-eq-default (take n l) 0 {n = i} (omega (arith, length-take n l))))
     (λ (g : i < n). d .ensures .stays i g ∙ sym (getD-take n l i 0 g))

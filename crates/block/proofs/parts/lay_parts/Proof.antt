@@ -17,7 +17,7 @@ returns c =
     let z = first .clear in let m = second .copy in let y = third .copy2 in let a = b .args in let n = length (now (a .last)) in
     let e : a .at + n - a .at ≡ n = omega arith in
     parts-alike (now (a .first)) (now (a .last)) (a .at) (b .pre .0) (z .last .0) (m .last .1 .0) (y .last .1 .0) (a .at + n - a .at)
-    (z .ensures .long) (z .ensures .zeros) (m .ensures) (λ j h. y .ensures .first j h)
+    (z .ensures .long ∙ b .pre .1) (z .ensures .zeros) (m .ensures) (λ j h. y .ensures .first j h)
     (y .kept .1 .0 ∙ part-length (m .last .1 .0) (a .at) (a .at + n - a .at) (omega (arith, m .ensures .stays .size, z .ensures .long, b .pre))) e
 
 pub lay-parts-spec : {M : Type 1} → statement M

@@ -1,17 +1,16 @@
 -- `room::pass::code_of` meets its contract: piece i stands in block i + 1, and its verdict is coded. Assumes nothing.
-use mathlib.Core.Path.{_≡_, subst}
+use mathlib.Core.Path.{sym, subst}
 use mathlib.Core.List.{List}
 use Prim.Native.Nat.{ℕ, suc}
 use native.Mathlib.Omega.{arith}
 use denote.Ref.{now}
-use Rattle.piece.specs.declared.motion.Verdict.{Verdict}
-use Rattle.piece.specs.declared.motion.Verdict.the-variants.{Clear, Mark, Refused}
 use Rattle.rules.specs.Reach.{Run}
 use Rattle.piece.specs.Numbers.{runOf}
 use Rattle.block.specs.Layout.{blockAt}
 use Rattle.block.specs.Verdicts.{VerdictInSays}
+use Rattle.room.specs.Codes.{CodeFound}
 use Rattle.room.proofs.Images.{part-is, has-few, has-long}
-use Rattle.room.proofs.Coding.{code-mark, code-none}
+use Rattle.room.proofs.Coding.{code-found}
 use borrow.Author.Needs.{needs}
 use Rattle.room.proofs.pass.code_of.Statement.{statement}
 use Rattle.room.proofs.pass.code_of.Tie as tie
@@ -38,22 +37,14 @@ image c = now (c .before .before .before .args .image)
 abbrev i : tie.After-verdict-in → ℕ
 i c = c .before .before .before .args .i
 
--- the verdict on the block, where it is known
-told : (c : tie.After-verdict-in) (v : Verdict) → c .verdict-in .result ≡ v → VerdictInSays (run c) (blockAt (image c) (suc (i c))) v
-told c v e =
-    subst (VerdictInSays (run c) (blockAt (image c) (suc (i c)))) e
-    (subst (λ (l : List ℕ). VerdictInSays (run c) l (c .verdict-in .result)) (part-is (image c) (i c)) (c .verdict-in .ensures))
+-- the verdict on the block
+told : (c : tie.After-verdict-in) → VerdictInSays (run c) (blockAt (image c) (suc (i c))) (c .verdict-in .result)
+told c = subst (λ (l : List ℕ). VerdictInSays (run c) l (c .verdict-in .result)) (part-is (image c) (i c)) (c .verdict-in .ensures)
 
 returns : tie.Need-returns
-returns c = told (c .before .before) Clear (c .enum-told .given .1)
-
-returns-2 : tie.Need-returns-2
-returns-2 c = let d = c .before .before .before in let k = c .before .k .given .0 .0 in code-mark (run d) (image d) (i d) k (told d (Mark k) (c .before .k .given .1))
-
-returns-3 : tie.Need-returns-3
-returns-3 c =
-    let d = c .before .before .before in let pre = d .before .before .before .pre in let x = c .before .x .given .0 .0 in
-    code-none (run d) (image d) (i d) (pre .0) (pre .1) x (told d (Refused x) (c .before .x .given .1))
+returns c =
+    let d = c .before in let pre = d .before .before .before .pre in
+    subst (CodeFound (run d) (image d) (i d)) (sym (c .coded .ensures)) (code-found (run d) (image d) (i d) (pre .0) (pre .1) (d .verdict-in .result) (told d))
 
 pub code-of-spec : {M : Type 1} → statement M
 code-of-spec =
@@ -66,9 +57,5 @@ code-of-spec =
     (λ c. search needs)
     part-verdict-in-end
     (λ c κs. search needs)
-    (λ c. search needs)
-    (λ c. search needs)
-    (λ c. search needs)
-    returns
-    returns-2
-    returns-3)
+    (λ c κs. search needs)
+    returns)

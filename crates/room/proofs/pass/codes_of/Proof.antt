@@ -8,9 +8,9 @@ use denote.Ref.{now}
 use borrow.Author.Needs.{needs}
 use borrow.Author.Count.{below-none}
 use Rattle.rules.specs.Reach.{Run}
+use Rattle.piece.specs.declared.motion.Coded.{Coded}
+use Rattle.piece.specs.declared.motion.Coded.the-variants.{Code, Refused}
 use Rattle.piece.specs.Numbers.{runOf}
-use Rattle.room.specs.declared.pass.Coded.{Coded}
-use Rattle.room.specs.declared.pass.Coded.the-variants.{Code, NoPiece}
 use Rattle.room.specs.Image.{count, HeadGood, Has}
 use Rattle.room.specs.Codes.{CodeFound, CodesTo}
 use Rattle.room.proofs.Images.{head-few}
@@ -76,7 +76,7 @@ add-t15 c = let h = few (c .before .before .before .before) in omega arith
 returns : tie.Need-returns Inv-loop μ-loop
 returns c =
     let d = c .before .before .before in let l = d .before in let x = c .before .x .given .0 .0 in
-    codes-stop (run l) (image l) (codes l) (i l) x (has l) (l .before .loop .inv .coded) (told d (NoPiece x) (c .before .x .given .1))
+    codes-stop (run l) (image l) (codes l) (i l) x (has l) (l .before .loop .inv .coded) (told d (Refused x) (c .before .x .given .1))
 
 add-i : tie.Need-add-i Inv-loop μ-loop
 add-i c = let h = few (c .before .before .before .before) in omega arith
