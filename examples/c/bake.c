@@ -116,7 +116,7 @@ int main(int argc, char **argv)
     uint8_t image[(1 + PIECES) * BAKER_BLOCK_SIZE];
     if (argc != 2) return fprintf(stderr, "bake BOOKS\n"), 2;
     FILE *file = fopen(argv[1], "rb");
-    if (file && fread(books, sizeof books, 1, file) != 1) return fprintf(stderr, "bake: no books in the file\n"), 1;
+    if (file && (fread(books, sizeof books, 1, file) != 1 || fgetc(file) != EOF)) return fprintf(stderr, "bake: no books in the file\n"), 1;
     if (file) fclose(file);
 
     make_room(image);
