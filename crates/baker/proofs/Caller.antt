@@ -17,8 +17,10 @@ use Rattle.piece.specs.Tells.{codedOf}
 use Rattle.piece.proofs.Tells.{TellsCode, tells-code}
 use Rattle.piece.specs.declared.motion.Coded as piece
 use Rattle.piece.specs.declared.motion.Coded.the-variants as verdict
-use Rattle.block.specs.Layout.{headerBlock, runBlock, pieceBlock}
-use Rattle.block.specs.Reading.{headerAsked, runAsked, pieceAsked, HeaderSays}
+use Rattle.block.specs.Layout.{headerBlock, runBlock}
+use Rattle.piece_block.specs.Layout.{pieceBlock}
+use Rattle.block.specs.Reading.{headerAsked, runAsked, HeaderSays}
+use Rattle.piece_block.specs.Reading.{pieceAsked}
 use Rattle.block.specs.declared.HeaderRead.{HeaderRead}
 use Rattle.block.specs.declared.HeaderRead.the-variants as header
 use Rattle.obj.specs.File.{Drawn, ObjSays}
@@ -31,9 +33,9 @@ use Rattle.book.specs.Ask.{AskSays, Hits, Misses, Kept}
 use Rattle.book.specs.declared.Asked.{Asked}
 use Rattle.book.specs.declared.Asked.the-variants as asked
 use Rattle.book.proofs.Kept.{true-hit}
-use Rattle.baker.specs.Macros as macro
-use Rattle.baker.specs.Coded.{Coded, checkedMeans, codedMeans, headerMeans, countedMeans, askedMeans, outlineMeans, checkedCode}
-use Rattle.baker.specs.Told.{Macros, Reads}
+use Rattle.coding.specs.Macros as macro
+use Rattle.coding.specs.Coded.{Coded, checkedMeans, codedMeans, headerMeans, countedMeans, askedMeans, outlineMeans, checkedCode}
+use Rattle.coding.specs.Told.{Macros, Reads}
 use Rattle.baker.specs.Export.{Exported}
 use Rattle.baker.specs.Calls.{CheckRunGives, CheckPieceGives, VerdictGives, WriteHeaderGives, WriteRunGives, WritePieceGives, ReadHeaderGives, RoomVerdictsGives, AskGives, IntakeGives, ObjGives}
 use Rattle.baker.proofs.Read.{check-run-read, check-piece-read, verdict-read, write-header-read, write-run-read}

@@ -1,8 +1,6 @@
-pub mod Codes
 pub mod Back
 pub mod Listed
 pub mod Pairs
-pub mod Readable
 pub mod Arise
 pub mod Read
 pub mod Caller

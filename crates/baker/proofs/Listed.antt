@@ -16,12 +16,12 @@ use Rattle.refusal.specs.Said.{Writes}
 use Rattle.refusal.proofs.Unique.{written}
 use Rattle.refusal.specs.declared.Checked.{Checked}
 use Rattle.refusal.specs.declared.Checked.the-variants.{Good, Refused}
-use Rattle.block.specs.declared.PieceRead.{PieceRead}
-use Rattle.block.specs.Reading.{PieceFound, PieceSays}
-use Rattle.block.proofs.PieceLaws.{held-few, held-long}
+use Rattle.piece_block.specs.declared.PieceRead.{PieceRead}
+use Rattle.piece_block.specs.Reading.{PieceFound, PieceSays}
+use Rattle.piece_block.proofs.PieceLaws.{held-few}
 use Rattle.intake.specs.Footprint.{putChecks}
-use Rattle.baker.specs.Coded.{refusalCode, checkedCode, out, coded}
-use Rattle.baker.specs.Listed.{kept, listed, Holds}
+use Rattle.coding.specs.Coded.{refusalCode, checkedCode, out, coded}
+use Rattle.baker.specs.Listed.{kept, listed, pieceFound}
 
 module _ (least : ℕ) (before : List ℤ) (c : ℕ) (l : List ℤ) where
   pub long : least ≤ length before → coded (listed least before c l) ≡ out c (fronted l before)
@@ -57,10 +57,21 @@ laid-two before l m =
     let upto = take-at l rest (length l) refl in let past = drop-at l rest (length l) refl in
     rw (upto, past, take-all (length first - length l) rest k, drop-of-length-le rest k, append-nil, append-assoc l m, drop-drop (length m) (length l) before, length-append l m)
 
--- ---- a piece that was read holds its corners
-read-found : (l : List ℕ) (r : PieceRead) (x : Checked) → PieceFound l r x → Holds r
-read-found l r Good f = record { count = omega (arith, held-few l r f); corners = held-long l r f }
-read-found l r (Refused x) f = record { count = omega (arith, f .holds .count); corners = omega (arith, f .holds .count) }
+-- ---- a piece that was read
+-- it has so many corners
+read-found : (l : List ℕ) (r : PieceRead) (x : Checked) → PieceFound l r x → r .count ≤ 64
+read-found l r Good f = omega (arith, held-few l r f)
+read-found l r (Refused x) f = omega (arith, f .holds .count)
 
-pub read-holds : (l : List ℕ) (r : PieceRead) → PieceSays l r → Holds r
-read-holds l r f = read-found l r (r .found) f
+pub read-few : (l : List ℕ) (r : PieceRead) → PieceSays l r → r .count ≤ 64
+read-few l r f = read-found l r (r .found) f
+
+-- it is good where the code of what was found is 0; any other code is answered, and the list is kept
+pub found-good : (x : Checked) (c : ℕ) → c ≡ checkedCode x → c ≡ 0 → x ≡ Good
+unfolding refusalCode
+found-good Good c e z = refl
+found-good (Refused x) c e z = absurd (omega arith)
+
+pub found-kept : (before : List ℤ) (r : PieceRead) (x : Checked) (c : ℕ) → c ≡ checkedCode x → (c ≡ 0 → ⊥) → out c before ≡ coded (pieceFound before r x)
+found-kept before r Good c e n = absurd (n e)
+found-kept before r (Refused x) c e n = ap (λ (k : ℕ). out k before) e

@@ -16,8 +16,8 @@ use Rattle.refusal.specs.declared.Checked.{Checked}
 use Rattle.refusal.specs.declared.Checked.the-variants.{Good, Refused}
 use Rattle.refusal.proofs.Finds.{finds-after}
 use Rattle.intake.specs.declared.Corner.{Corner}
-use Rattle.intake.specs.declared.Taken.the-variants.{Grid}
-use Rattle.intake.specs.Number.{Answer}
+use Rattle.grid.specs.declared.Taken.the-variants.{Grid}
+use Rattle.grid.specs.Number.{Answer}
 use Rattle.intake.specs.Footprint.{cornerAt, cornerChecks, cornersChecks, intakeChecks, Later, Intake}
 use Rattle.baker.specs.Export.{corners, exportChecks, Exported, Paired}
 

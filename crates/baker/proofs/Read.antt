@@ -1,5 +1,4 @@
 -- What a C caller reads from what each call gives, by the macros and by `told`, is that call's answer. Assumes nothing.
-use mathlib.Core.Path.{_≡_, sym, ap, subst}
 use mathlib.Core.Bool.{Bool, true, false, cond}
 use mathlib.Core.List.{List}
 use Prim.Native.Nat.{ℕ, suc, _*_, _≤_, _<_, _^_}
@@ -14,7 +13,7 @@ use Rattle.rules.specs.Ring.{Pt}
 use Rattle.rules.specs.Refusal.{refuse, Check, Passes}
 use Rattle.rules.specs.Good.{runChecks, pieceChecks}
 use Rattle.rules.proofs.Checks.{passes-left, passes-right}
-use Rattle.refusal.specs.Said.{said, Finds, Writes}
+use Rattle.refusal.specs.Said.{said, Finds, Writes, saidIn}
 use Rattle.refusal.specs.declared.Checked.{Checked}
 use Rattle.refusal.specs.declared.Checked.the-variants.{Good, Refused}
 use Rattle.piece.specs.Place.{Lies}
@@ -24,23 +23,26 @@ use Rattle.piece.specs.declared.Placed.{Placed}
 use Rattle.piece.specs.declared.Placed.the-variants as placed
 use Rattle.piece.specs.declared.motion.Coded as piece
 use Rattle.piece.specs.declared.motion.Coded.the-variants as verdict
-use Rattle.piece.specs.Numbers.{runOf, pieceOf}
-use Rattle.block.specs.Layout.{headerBlock, runNumbers, runBlock, pieceNumbers, pieceBlock, blockAt}
-use Rattle.block.specs.Reading.{headerAsked, runAsked, pieceAsked, HeaderSays, RunSays, PieceSays, PieceFound}
+use Rattle.good.specs.Numbers.{runOf, pieceOf}
+use Rattle.block.specs.Layout.{headerBlock, runNumbers, runBlock}
+use Rattle.piece_block.specs.Layout.{pieceNumbers, pieceBlock}
+use Rattle.seal.specs.Seal.{blockAt}
+use Rattle.block.specs.Reading.{headerAsked, runAsked, HeaderSays, RunSays}
+use Rattle.piece_block.specs.Reading.{pieceAsked, PieceSays, PieceFound}
 use Rattle.block.specs.declared.HeaderRead.{HeaderRead}
 use Rattle.block.specs.declared.HeaderRead.the-variants as header
 use Rattle.block.specs.declared.RunRead.{RunRead}
 use Rattle.block.specs.declared.RunRead.the-variants as run
-use Rattle.block.specs.declared.PieceRead.{PieceRead}
-use Rattle.intake.specs.Number.{Answer}
-use Rattle.intake.specs.declared.Taken.{Taken}
-use Rattle.intake.specs.declared.Taken.the-variants as taken
-use Rattle.obj.specs.Text.{lines}
+use Rattle.piece_block.specs.declared.PieceRead.{PieceRead}
+use Rattle.grid.specs.Number.{Answer}
+use Rattle.grid.specs.declared.Taken.{Taken}
+use Rattle.grid.specs.declared.Taken.the-variants as taken
+use Rattle.line.specs.Text.{lines}
 use Rattle.obj.specs.File.{objChecks, ObjSays}
 use Rattle.obj.specs.declared.Outline.{Outline}
 use Rattle.obj.specs.declared.Outline.the-variants as outline
 use Rattle.obj.proofs.Bounds.{face-few}
-use Rattle.room.specs.Image.{roomChecks, saidIn}
+use Rattle.room.specs.Image.{roomChecks}
 use Rattle.room.specs.Step.{StepSays, StepFinds, pieceRead}
 use Rattle.room.specs.Verdicts.{VerdictsSay, verdictsChecks}
 use Rattle.room.specs.declared.Step.{Step}
@@ -52,30 +54,17 @@ use Rattle.room.proofs.Images.{few-pieces}
 use Rattle.book.specs.Ask.{AskSays}
 use Rattle.book.specs.declared.Asked.{Asked}
 use Rattle.book.specs.declared.Asked.the-variants as asked
-use Rattle.baker.specs.Coded.{Coded, Meaning, value, codeOf, checkedMeans, placedMeans, codedMeans, verdictMeans, headerMeans, countedMeans, askedMeans, outlineMeans, Out, out, coded}
-use Rattle.baker.specs.Told.{Within, Reads}
+use Rattle.coding.specs.Coded.{value, checkedMeans, placedMeans, codedMeans, verdictMeans, headerMeans, countedMeans, askedMeans, outlineMeans, out}
+use Rattle.coding.specs.Told.{Within, Reads}
 use Rattle.baker.specs.Listed.{kept, listed, runListed, pieceFound, pieceListed, stepFound, stepListed}
 use Rattle.baker.specs.Export.{takenOne, exportChecks, Exported}
 use Rattle.baker.specs.Calls.{CheckRunGives, CheckPieceGives, PlaceGives, VerdictGives, WriteHeaderGives, WriteRunGives, WritePieceGives, ReadHeaderGives}
 use Rattle.baker.specs.Calls.{ReadRunGives, ReadPieceGives, RoomPieceGives, RoomVerdictsGives, AskGives, TakeGives, IntakeGives, ObjGives}
-use Rattle.baker.proofs.Readable.{readable}
-use Rattle.baker.proofs.Listed.{read-holds}
-use Rattle.baker.proofs.Arise.{AllFit, fit-run, fit-piece, fit-place, fit-verdict, fit-ask, fit-header, fit-run-block, fit-piece-block}
-use Rattle.baker.proofs.Arise.{fit-header-asked, fit-run-asked, fit-piece-asked, fit-verdicts, fit-step, fit-export, fit-obj, fit-short}
-
--- ---- what is coded within its bits reads back
-read : (m : Meaning) (c : ℕ) → Within m → c ≡ codeOf m → Reads c m
-read m c h e = subst (λ (n : ℕ). Reads n m) (sym e) (readable m h)
-
--- as an answer
-module _ {A : Type 0} (S : A → Type 0) (f : A → Meaning) (within : (x : A) → S x → Within (f x)) where
-  read-back : {c : ℕ} (h : Coded S (λ x. codeOf (f x)) c) → Reads c (f (h .answer))
-  read-back {c} h = read (f (h .answer)) c (within (h .answer) (h .says)) (h .code)
-
--- as an answer beside what was lent
-module _ {A L : Type 0} (S : A → Type 0) (f : A → Out Meaning L) (within : (x : A) → S x → Within (f x .says)) where
-  read-beside : {c : ℕ} {l : L} (h : Coded S (λ x. coded (f x)) (out c l)) → Reads c (f (h .answer) .says)
-  read-beside {c} h = read (f (h .answer) .says) c (within (h .answer) (h .says)) (ap (λ (o : Out ℕ L). o .says) (h .code))
+use Rattle.coding.proofs.Readable.{read-back, read-beside}
+use Rattle.baker.proofs.Listed.{read-few}
+use Rattle.coding.proofs.Arise.{AllFit, fit-run, fit-piece, fit-place, fit-verdict, fit-ask, fit-header, fit-run-block, fit-piece-block}
+use Rattle.coding.proofs.Arise.{fit-header-asked, fit-run-asked, fit-piece-asked, fit-verdicts, fit-step, fit-obj, fit-short}
+use Rattle.baker.proofs.Arise.{fit-export}
 
 -- ---- every answer is within its bits
 module _ (cs : List Check) (fit : AllFit cs) where
@@ -139,8 +128,8 @@ pieces l before r h = by-case (r .found) h
   where
     by-case : (x : Checked) → PieceFound l r x → Within (pieceFound before r x .says)
     by-case Good f =
-        let m = read-holds l r h .count in let corners = take (2 * r .count) (r .corners) in
-        lists 133 before (r .count) (pieceNumbers (pieceOf (r .band) corners)) (omega arith)
+        let m = read-few l r h in let corners = take (2 * r .count) (r .corners) in
+        lists 133 before (r .count) (pieceNumbers (pieceOf (r .slab) corners)) (omega arith)
     by-case (Refused x) f = fit-piece-block l .fits (said x) (f .fault)
 
 steps : (image : List ℕ) (place : ℕ) (before : List ℤ) (s : Step) → StepSays image place s → Within (stepListed before s .says)

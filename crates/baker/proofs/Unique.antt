@@ -14,17 +14,22 @@ use Rattle.refusal.specs.Said.{Finds, Writes}
 use Rattle.refusal.specs.declared.Checked.{Checked}
 use Rattle.refusal.specs.declared.Checked.the-variants.{Good, Refused}
 use Rattle.refusal.proofs.Unique.{finds-one}
-use Rattle.piece.specs.declared.Run as plain
-use Rattle.piece.specs.declared.Band.{Band}
+use Rattle.good.specs.declared.Run as plain
+use Rattle.good.specs.declared.Slab.{Slab}
 use Rattle.piece.specs.Place.{Lies}
 use Rattle.piece.specs.Tells.{Tells}
 use Rattle.piece.proofs.Unique as piece
+use Rattle.good.proofs.Unique as good
 use Rattle.piece.proofs.Tells.{one-told}
-use Rattle.block.specs.Layout.{headerBlock, runBlock, pieceBlock}
-use Rattle.block.specs.Reading.{headerAsked, runAsked, pieceAsked, HeaderSays, RunSays, PieceSays}
+use Rattle.block.specs.Layout.{headerBlock, runBlock}
+use Rattle.piece_block.specs.Layout.{pieceBlock}
+use Rattle.block.specs.Reading.{headerAsked, runAsked, HeaderSays, RunSays}
+use Rattle.piece_block.specs.Reading.{pieceAsked, PieceSays}
 use Rattle.block.proofs.Unique as block
-use Rattle.intake.specs.Number.{Answer}
-use Rattle.intake.proofs.Once.{one-answer, one-intake, sharp-intake}
+use Rattle.piece_block.proofs.Unique as pieceBlock
+use Rattle.grid.specs.Number.{Answer}
+use Rattle.grid.proofs.Once.{one-answer}
+use Rattle.intake.proofs.Once.{one-intake, sharp-intake}
 use Rattle.obj.specs.File.{ObjSays}
 use Rattle.obj.proofs.Unique as obj
 use Rattle.room.specs.Step.{StepSays}
@@ -32,45 +37,26 @@ use Rattle.room.specs.Verdicts.{VerdictsSay}
 use Rattle.room.proofs.Unique as room
 use Rattle.book.specs.Ask.{AskSays}
 use Rattle.book.proofs.Unique as book
-use Rattle.baker.specs.Coded.{Coded, Meaning, checkedCode, placedCode, verdictCode, headerCode, countedCode, askedCode, outlineCode, Out, out, coded}
+use Rattle.coding.specs.Coded.{checkedCode, placedCode, verdictCode, headerCode, countedCode, askedCode, outlineCode}
+use Rattle.coding.proofs.Codes.{coded-one, coded-lent, coded-beside}
 use Rattle.baker.specs.Listed.{runListed, pieceListed, stepListed}
 use Rattle.baker.specs.Export.{Lent, lent, takenOne, corners, exportChecks, Exported}
 use Rattle.baker.specs.Calls.{CheckRunGives, CheckPieceGives, PlaceGives, VerdictGives, WriteHeaderGives, WriteRunGives, WritePieceGives, ReadHeaderGives}
 use Rattle.baker.specs.Calls.{ReadRunGives, ReadPieceGives, RoomPieceGives, RoomVerdictsGives, AskGives, TakeGives, IntakeGives, ObjGives}
-
--- ---- one answer, one code
-pub coded-one : {A B : Type 0} (S : A → Type 0) (f : A → B) (c d : B) → ((x y : A) → S x → S y → x ≡ y) → Coded S f c → Coded S f d → c ≡ d
-coded-one S f c d same h k = h .code ∙ ap f (same (h .answer) (k .answer) (h .says) (k .says)) ∙ sym (k .code)
-
--- and what was lent, where the answer's promise speaks of it
-pub coded-lent : {A B L : Type 0} (S : L → A → Type 0) (f : A → B) (a b : L) (c d : B) → ((x y : A) → S a x → S b y → (x ≡ y) × (a ≡ b)) → Coded (S a) f c → Coded (S b) f d → (c ≡ d) × (a ≡ b)
-coded-lent S f a b c d same h k =
-    let e = same (h .answer) (k .answer) (h .says) (k .says) in
-    (h .code ∙ ap f (e .0) ∙ sym (k .code), e .1)
-
--- or where it is coded beside the answer
-module _ {A L : Type 0} (S : A → Type 0) (f : A → Out Meaning L) where
-  abbrev made : A → Out ℕ L
-  made x = coded (f x)
-
-  pub coded-beside : (a b : L) (c d : ℕ) → ((x y : A) → S x → S y → x ≡ y) → Coded S made (out c a) → Coded S made (out d b) → (c ≡ d) × (a ≡ b)
-  coded-beside a b c d same h k =
-      let e = coded-one S made (out c a) (out d b) same h k in
-      (ap (λ (o : Out ℕ L). o .says) e, ap (λ (o : Out ℕ L). o .after) e)
 
 -- ---- plain numbers
 -- the numbers of a run and of a piece, as a crate below takes them
 abbrev numbers : Run → plain.Run
 numbers r = record { x = r .start .x; y = r .start .y; z = r .start .z; vx = r .speed .x; vy = r .speed .y; vz = r .speed .z; ticks = r .ticks }
 
-abbrev band : Piece → Band
-band k = record { bottom = k .bottom; top = k .top; vx = k .speed .x; vy = k .speed .y; vz = k .speed .z }
+abbrev slab : Piece → Slab
+slab k = record { bottom = k .bottom; top = k .top; vx = k .speed .x; vy = k .speed .y; vz = k .speed .z }
 
 pub check-run-one : (r : Run) (c d : ℕ) → CheckRunGives r c → CheckRunGives r d → c ≡ d
-check-run-one r c d = coded-one (Finds (runChecks r)) checkedCode c d (piece.check-run-one (numbers r))
+check-run-one r c d = coded-one (Finds (runChecks r)) checkedCode c d (good.check-run-one (numbers r))
 
 pub check-piece-one : (k : Piece) (c d : ℕ) → CheckPieceGives k c → CheckPieceGives k d → c ≡ d
-check-piece-one k c d = coded-one (Finds (pieceChecks k)) checkedCode c d (piece.check-piece-one (band k) (k .corners))
+check-piece-one k c d = coded-one (Finds (pieceChecks k)) checkedCode c d (good.check-piece-one (slab k) (k .corners))
 
 pub place-one : (p : Pt) (l : List ℤ) (c d : ℕ) → PlaceGives p l c → PlaceGives p l d → c ≡ d
 place-one p l c d = coded-one (Lies p l) placedCode c d (piece.place-one p l)
@@ -86,7 +72,7 @@ pub write-run-one : (r : Run) (before a b : List ℕ) (c d : ℕ) → WriteRunGi
 write-run-one r before a b c d = coded-lent (Writes (runAsked before r) (runBlock r) before) checkedCode a b c d (block.write-run-one (numbers r) before a b)
 
 pub write-piece-one : (k : Piece) (before a b : List ℕ) (c d : ℕ) → WritePieceGives k before a c → WritePieceGives k before b d → (c ≡ d) × (a ≡ b)
-write-piece-one k before a b c d = coded-lent (Writes (pieceAsked before k) (pieceBlock k) before) checkedCode a b c d (block.write-piece-one k before a b)
+write-piece-one k before a b c d = coded-lent (Writes (pieceAsked before k) (pieceBlock k) before) checkedCode a b c d (pieceBlock.write-piece-one k before a b)
 
 pub read-header-one : (l : List ℕ) (c d : ℕ) → ReadHeaderGives l c → ReadHeaderGives l d → c ≡ d
 read-header-one l c d = coded-one (HeaderSays l) headerCode c d (block.read-header-one l)
@@ -95,7 +81,7 @@ pub read-run-one : (l : List ℕ) (before a b : List ℤ) (c d : ℕ) → ReadRu
 read-run-one l before a b c d = coded-beside (RunSays l) (runListed before) a b c d (block.read-run-one l)
 
 pub read-piece-one : (l : List ℕ) (before a b : List ℤ) (c d : ℕ) → ReadPieceGives l before a c → ReadPieceGives l before b d → (c ≡ d) × (a ≡ b)
-read-piece-one l before a b c d = coded-beside (PieceSays l) (pieceListed before) a b c d (block.read-piece-one l)
+read-piece-one l before a b c d = coded-beside (PieceSays l) (pieceListed before) a b c d (pieceBlock.read-piece-one l)
 
 -- ---- rooms and the book
 pub room-piece-one : (image : List ℕ) (place : ℕ) (before a b : List ℤ) (c d : ℕ) → RoomPieceGives image place before a c → RoomPieceGives image place before b d → (c ≡ d) × (a ≡ b)

@@ -9,13 +9,14 @@ use Rattle.rules.specs.Good.{runChecks, pieceChecks}
 use Rattle.refusal.specs.Said.{Finds}
 use Rattle.piece.specs.Place.{Lies}
 use Rattle.piece.specs.Tells.{Tells}
-use Rattle.block.specs.Reading.{WriteHeaderSays, WriteRunSays, WritePieceSays, HeaderSays, RunSays, PieceSays}
-use Rattle.intake.specs.Number.{Answer}
+use Rattle.block.specs.Reading.{WriteHeaderSays, WriteRunSays, HeaderSays, RunSays}
+use Rattle.piece_block.specs.Reading.{WritePieceSays, PieceSays}
+use Rattle.grid.specs.Number.{Answer}
 use Rattle.obj.specs.File.{ObjSays}
 use Rattle.room.specs.Step.{StepSays}
 use Rattle.room.specs.Verdicts.{VerdictsSay}
 use Rattle.book.specs.Ask.{AskSays}
-use Rattle.baker.specs.Coded.{Coded, checkedCode, placedCode, verdictCode, headerCode, countedCode, askedCode, outlineCode, out, coded}
+use Rattle.coding.specs.Coded.{Coded, checkedCode, placedCode, verdictCode, headerCode, countedCode, askedCode, outlineCode, out, coded}
 use Rattle.baker.specs.Listed.{runListed, pieceListed, stepListed}
 use Rattle.baker.specs.Export.{lent, takenOne, Exported}
 

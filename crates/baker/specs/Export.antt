@@ -9,10 +9,10 @@ use Rattle.rules.specs.Refusal.{Check, demand, refuse}
 use Rattle.refusal.specs.Said.{Finds}
 use Rattle.refusal.specs.declared.Checked.{Checked}
 use Rattle.intake.specs.declared.Corner.{Corner}
-use Rattle.intake.specs.declared.Taken.{Taken}
-use Rattle.intake.specs.declared.Taken.the-variants.{Grid, OffGrid, NotNumber, Beyond}
+use Rattle.grid.specs.declared.Taken.{Taken}
+use Rattle.grid.specs.declared.Taken.the-variants.{Grid, OffGrid, NotNumber, Beyond}
 use Rattle.intake.specs.Footprint.{cornerAt, intakeChecks, Later}
-use Rattle.baker.specs.Coded.{Meaning, value, Out, out}
+use Rattle.coding.specs.Coded.{Meaning, value, Out, out}
 
 -- the two numbers that are lent
 pub record Lent : Type 0 where

@@ -1,26 +1,26 @@
 -- What a call that reads into a lent list leaves there. Assumes nothing.
 use mathlib.Core.Bool.{cond}
 use mathlib.Core.List.{List}
-use Prim.Native.Nat.{ℕ, _*_, _≤_}
+use Prim.Native.Nat.{ℕ, _*_}
 use lib.Dec.{leb}
 use lib.IntN.{ℤ}
 use lib.ListN.{length, take}
 use Rattle.whole.specs.Front.{fronted}
 use Rattle.rules.specs.Refusal.{Refusal, refuse}
-use Rattle.refusal.specs.Said.{said}
+use Rattle.refusal.specs.Said.{said, saidIn}
 use Rattle.refusal.specs.declared.Checked.{Checked}
 use Rattle.refusal.specs.declared.Checked.the-variants.{Good, Refused}
-use Rattle.piece.specs.Numbers.{runOf, pieceOf}
-use Rattle.block.specs.Layout.{runNumbers, pieceNumbers}
+use Rattle.good.specs.Numbers.{runOf, pieceOf}
+use Rattle.block.specs.Layout.{runNumbers}
+use Rattle.piece_block.specs.Layout.{pieceNumbers}
 use Rattle.block.specs.declared.RunRead.{RunRead}
 use Rattle.block.specs.declared.RunRead.the-variants.{Found, NoRun}
-use Rattle.block.specs.declared.PieceRead.{PieceRead}
-use Rattle.room.specs.Image.{saidIn}
+use Rattle.piece_block.specs.declared.PieceRead.{PieceRead}
 use Rattle.room.specs.Step.{pieceRead}
 use Rattle.room.specs.declared.Step.{Step}
 use Rattle.room.specs.declared.Found as room
 use Rattle.room.specs.declared.Found.the-variants as found
-use Rattle.baker.specs.Coded.{Meaning, value, refusal, Out, out}
+use Rattle.coding.specs.Coded.{Meaning, value, refusal, Out, out}
 
 -- a refusal, and the list as it was
 abbrev pub kept : List ℤ → Refusal → Out Meaning (List ℤ)
@@ -37,7 +37,7 @@ runListed before (NoRun x) = kept before (said x)
 
 -- the corner count; bottom, top, the velocity and the corners
 abbrev pub pieceFound : List ℤ → PieceRead → Checked → Out Meaning (List ℤ)
-pieceFound before r Good = listed 133 before (r .count) (pieceNumbers (pieceOf (r .band) (take (2 * r .count) (r .corners))))
+pieceFound before r Good = listed 133 before (r .count) (pieceNumbers (pieceOf (r .slab) (take (2 * r .count) (r .corners))))
 pieceFound before r (Refused x) = kept before (said x)
 
 abbrev pub pieceListed : List ℤ → PieceRead → Out Meaning (List ℤ)
@@ -51,8 +51,3 @@ stepFound before s (found.Refused x b) = kept before (saidIn x b)
 
 abbrev pub stepListed : List ℤ → Step → Out Meaning (List ℤ)
 stepListed before s = stepFound before s (s .found)
-
--- as many corners as a footprint has stand in the array
-pub record Holds (r : PieceRead) : Type 0 where
-  pub count : r .count ≤ 64
-  pub corners : 2 * r .count ≤ length (r .corners)

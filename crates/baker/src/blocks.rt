@@ -1,12 +1,12 @@
 // Blocks of 512 bytes.
-use crate::code::checked;
-use crate::code::header;
-use crate::code::refusal;
-use crate::given::band_of;
 use crate::given::run_of;
+use crate::given::slab_of;
 use crate::list::put_piece;
 use crate::list::put_run;
 use block::RunRead;
+use coding::checked;
+use coding::header;
+use coding::refusal;
 ghost use Rattle.rules.specs.Reach.{run, piece};
 ghost use Rattle.baker.specs.Calls.{WriteHeaderGives, ReadHeaderGives, WriteRunGives, ReadRunGives, WritePieceGives, ReadPieceGives};
 
@@ -63,14 +63,20 @@ pub extern "C" fn baker_write_piece(
 ) -> u64
     ensures { λ r. ⌜ WritePieceGives (piece bottom top vx vy vz (now (corners .entry))) (now (block .entry)) (now (block .exit)) r ⌝ }
 {
-    let band = band_of(bottom, top, vx, vy, vz);
-    checked(block::write_piece(band, corners, block))
+    let slab = slab_of(bottom, top, vx, vy, vz);
+    checked(piece_block::write_piece(slab, corners, block))
 }
 
 #[no_mangle]
 pub extern "C" fn baker_read_piece(block: &[u8], numbers: &mut [i32]) -> u64
     ensures { λ r. ⌜ ReadPieceGives (now (block .entry)) (now (numbers .entry)) (now (numbers .exit)) r ⌝ }
 {
-    let read = block::read_piece(block);
-    put_piece(read, numbers)
+    let read = piece_block::read_piece(block);
+    let found = read.found;
+    let answer = checked(found);
+    if answer != 0 {
+        return answer;
+    }
+    let corners = read.corners;
+    put_piece(read.slab, corners, read.count, numbers)
 }

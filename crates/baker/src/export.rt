@@ -1,7 +1,8 @@
 // Exported numbers, one by one or as a footprint.
-use crate::code::checked;
+use coding::checked;
+use grid::Taken;
+use grid::take;
 use intake::Corner;
-use intake::Taken;
 use refusal::Checked;
 use refusal::Refusal;
 ghost use Prim.Native.Nat.{_*_, _≤_};
@@ -13,7 +14,7 @@ ghost use Rattle.baker.specs.Calls.{TakeGives, IntakeGives};
 pub extern "C" fn baker_take(x: f32, grid: &mut i32, floor: &mut f32) -> u64
     ensures { λ r. ⌜ TakeGives x (now (grid .entry)) (now (floor .entry)) (now (grid .exit)) (now (floor .exit)) r ⌝ }
 {
-    match intake::take(x) {
+    match take(x) {
         Taken::Grid(k) => {
             *grid = k;
             0

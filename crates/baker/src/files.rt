@@ -1,6 +1,6 @@
 // Footprints from OBJ files.
-use crate::code::outline;
-use crate::given::band_of;
+use crate::given::slab_of;
+use coding::outline;
 ghost use Rattle.rules.specs.Reach.{piece};
 ghost use Rattle.baker.specs.Calls.{ObjGives};
 
@@ -16,6 +16,6 @@ pub extern "C" fn baker_obj(
 ) -> u64
     ensures { λ r. ⌜ ObjGives (now (file .entry)) (piece bottom top vx vy vz) (now (list .entry)) (now (list .exit)) r ⌝ }
 {
-    let band = band_of(bottom, top, vx, vy, vz);
-    outline(obj::footprint(file, band, list))
+    let slab = slab_of(bottom, top, vx, vy, vz);
+    outline(obj::footprint(file, slab, list))
 }

@@ -1,11 +1,11 @@
-// The run and the band that a call's numbers say.
-use piece::Band;
-use piece::Run;
+// The run and the slab that a call's numbers say.
+use good::Run;
+use good::Slab;
 ghost use mathlib.Core.Path.{_≡_};
 ghost use mathlib.Core.List.{List};
 ghost use lib.IntN.{ℤ};
 ghost use Rattle.rules.specs.Reach.{run, piece};
-ghost use Rattle.piece.specs.Numbers.{runOf, pieceOf};
+ghost use Rattle.good.specs.Numbers.{runOf, pieceOf};
 
 pub(crate) fn run_of(x: i32, y: i32, z: i32, vx: i32, vy: i32, vz: i32, ticks: u32) -> Run
     ensures { λ r. ⌜ runOf r ≡ run x y z vx vy vz ticks ⌝ }
@@ -22,10 +22,10 @@ pub(crate) fn run_of(x: i32, y: i32, z: i32, vx: i32, vy: i32, vz: i32, ticks: u
 }
 
 // Whatever corners stand beside it.
-pub(crate) fn band_of(bottom: i32, top: i32, vx: i32, vy: i32, vz: i32) -> Band
+pub(crate) fn slab_of(bottom: i32, top: i32, vx: i32, vy: i32, vz: i32) -> Slab
     ensures { λ r. ⌜ ((l : List ℤ) → pieceOf r l ≡ piece bottom top vx vy vz l) ⌝ }
 {
-    Band {
+    Slab {
         bottom,
         top,
         vx,

@@ -1,6 +1,5 @@
-// The calls for C and Rust, over numbers and slices. specs/Coded.antt says how an answer is one number, specs/Listed.antt what a lent list holds.
+// The calls for C and Rust, over numbers and slices. The crate `coding` says how an answer is one number, specs/Listed.antt what a lent list holds.
 mod blocks;
-mod code;
 mod export;
 mod files;
 mod given;

@@ -1,22 +1,27 @@
 // Numbers into a lent list.
-use crate::code::checked;
-use crate::code::refusal;
-use block::PieceRead;
+use coding::checked;
+use coding::refusal;
+use good::Run;
+use good::Slab;
 use intake::put;
-use piece::Run;
-use refusal::Checked;
+use piece_block::slab_numbers;
 use refusal::Refusal;
 ghost use mathlib.Core.Path.{_≡_};
-ghost use Prim.Native.Nat.{_≤_};
+ghost use mathlib.Core.List.{[]};
+ghost use Prim.Native.Nat.{_*_, _≤_};
+ghost use lib.ListN.{take};
+ghost use Rattle.good.specs.Numbers.{runOf, pieceOf};
+ghost use Rattle.block.specs.Layout.{runNumbers};
+ghost use Rattle.piece_block.specs.Layout.{pieceNumbers};
 ghost use Rattle.block.specs.declared.RunRead.the-variants.{Found};
-ghost use Rattle.baker.specs.Coded.{out, coded};
-ghost use Rattle.baker.specs.Listed.{runListed, pieceListed, Holds};
+ghost use Rattle.coding.specs.Coded.{out, coded};
+ghost use Rattle.baker.specs.Listed.{listed, runListed};
 
-pub(crate) fn put_run(run: Run, list: &mut [i32]) -> u64
+fn run_numbers(run: Run) -> [i32; 7]
     requires { ⌜ run .ticks ≤ 4096 ⌝ }
-    ensures { λ r. ⌜ out r (now (list .exit)) ≡ coded (runListed (now (list .entry)) (Found run)) ⌝ }
+    ensures { λ r. ⌜ r ≡ runNumbers (runOf run) ⌝ }
 {
-    let front = [
+    [
         run.x,
         run.y,
         run.z,
@@ -24,26 +29,27 @@ pub(crate) fn put_run(run: Run, list: &mut [i32]) -> u64
         run.vy,
         run.vz,
         run.ticks as i32,
-    ];
+    ]
+}
+
+pub(crate) fn put_run(run: Run, list: &mut [i32]) -> u64
+    requires { ⌜ run .ticks ≤ 4096 ⌝ }
+    ensures { λ r. ⌜ out r (now (list .exit)) ≡ coded (runListed (now (list .entry)) (Found run)) ⌝ }
+{
+    let front = run_numbers(run);
     checked(put(&front, list))
 }
 
-pub(crate) fn put_piece(read: PieceRead, list: &mut [i32]) -> u64
-    requires { ⌜ Holds read ⌝ }
-    ensures { λ r. ⌜ out r (now (list .exit)) ≡ coded (pieceListed (now (list .entry)) read) ⌝ }
+// A list must have room for the largest piece.
+pub(crate) fn put_piece(slab: Slab, corners: [i32; 128], count: usize, list: &mut [i32]) -> u64
+    requires { ⌜ count ≤ 64 ⌝ }
+    ensures { λ r. ⌜ out r (now (list .exit)) ≡ coded (listed 133 (now (list .entry)) count (pieceNumbers (pieceOf slab (take (2 * count) corners)))) ⌝ }
 {
-    let found = read.found;
-    if let Checked::Refused(x) = found {
-        return refusal(x);
-    }
     if list.len() < 133 {
         return refusal(Refusal::Short);
     }
-    let band = read.band;
-    let front = [band.bottom, band.top, band.vx, band.vy, band.vz];
+    let front = slab_numbers(slab);
     put(&front, list);
-    let count = read.count;
-    let corners = read.corners;
     put(&corners[..2 * count], &mut list[5..]);
     count as u64
 }

@@ -1,11 +1,11 @@
 // Runs and pieces in plain numbers.
-use crate::code::checked;
-use crate::code::placed;
-use crate::code::verdict;
-use crate::given::band_of;
 use crate::given::run_of;
+use crate::given::slab_of;
+use coding::checked;
+use coding::placed;
+use coding::verdict;
 ghost use Rattle.rules.specs.Reach.{run, piece};
-ghost use Rattle.piece.specs.Place.{pt};
+ghost use Rattle.good.specs.Numbers.{pt};
 ghost use Rattle.baker.specs.Calls.{CheckRunGives, CheckPieceGives, PlaceGives, VerdictGives};
 
 #[no_mangle]
@@ -21,7 +21,7 @@ pub extern "C" fn baker_check_run(
     ensures { λ r. ⌜ CheckRunGives (run x y z vx vy vz ticks) r ⌝ }
 {
     let run = run_of(x, y, z, vx, vy, vz, ticks);
-    checked(piece::check_run(run))
+    checked(good::check_run(run))
 }
 
 #[no_mangle]
@@ -35,8 +35,8 @@ pub extern "C" fn baker_check_piece(
 ) -> u64
     ensures { λ r. ⌜ CheckPieceGives (piece bottom top vx vy vz (now (corners .entry))) r ⌝ }
 {
-    let band = band_of(bottom, top, vx, vy, vz);
-    checked(piece::check_piece(band, corners))
+    let slab = slab_of(bottom, top, vx, vy, vz);
+    checked(good::check_piece(slab, corners))
 }
 
 #[no_mangle]
@@ -65,6 +65,6 @@ pub extern "C" fn baker_verdict(
     ensures { λ r. ⌜ VerdictGives (run x y z vx vy vz ticks) (piece bottom top ux uy uz (now (corners .entry))) r ⌝ }
 {
     let run = run_of(x, y, z, vx, vy, vz, ticks);
-    let band = band_of(bottom, top, ux, uy, uz);
-    verdict(piece::verdict(run, band, corners))
+    let slab = slab_of(bottom, top, ux, uy, uz);
+    verdict(piece::verdict(run, slab, corners))
 }

@@ -1,12 +1,10 @@
 // Rooms, and the book of remembered verdicts.
-use crate::code::asked;
-use crate::code::counted;
-use crate::code::refusal_in;
-use crate::given::band_of;
 use crate::given::run_of;
+use crate::given::slab_of;
 use crate::list::put_piece;
-use block::PieceRead;
-use refusal::Checked;
+use coding::asked;
+use coding::counted;
+use coding::refusal_in;
 use room::Found;
 ghost use Rattle.rules.specs.Reach.{run, piece};
 ghost use Rattle.baker.specs.Calls.{RoomPieceGives, RoomVerdictsGives, AskGives};
@@ -21,15 +19,8 @@ pub extern "C" fn baker_room_piece(image: &[u8], place: usize, numbers: &mut [i3
         Found::End => 0,
         Found::Refused(x, block) => refusal_in(x, block),
         Found::Piece => {
-            let band = step.band;
             let corners = step.corners;
-            let read = PieceRead {
-                found: Checked::Good,
-                band,
-                corners,
-                count: step.count,
-            };
-            put_piece(read, numbers)
+            put_piece(step.slab, corners, step.count, numbers)
         }
     }
 }
@@ -72,6 +63,6 @@ pub extern "C" fn baker_ask(
     ensures { λ r. ⌜ AskGives (run x y z vx vy vz ticks) (piece bottom top ux uy uz (now (corners .entry))) (now (book .entry)) (now (book .exit)) r ⌝ }
 {
     let run = run_of(x, y, z, vx, vy, vz, ticks);
-    let band = band_of(bottom, top, ux, uy, uz);
-    asked(book::ask(book, run, band, corners))
+    let slab = slab_of(bottom, top, ux, uy, uz);
+    asked(book::ask(book, run, slab, corners))
 }

@@ -3,16 +3,15 @@ use mathlib.Core.Path.{_≡_, refl, sym, ap, _∙_}
 use mathlib.Core.List.{List, [], _∷_, _++_}
 use Prim.Native.Nat.{ℕ, zero, suc, _+_, _≤_, _<_}
 use native.Mathlib.Omega.{arith}
-use lib.ListN.{length, getD, set, take, drop, length-drop, List·getD-append}
-use Rattle.whole.specs.Front.{Front}
-use Rattle.whole.proofs.Front.{front-is}
+use lib.ListN.{length, getD, List·getD-append}
 use Rattle.rules.specs.Reach.{Pieces}
 use Rattle.rules.specs.Refusal.{Passes}
 use Rattle.rules.proofs.Checks.{passes-append, passes-left, passes-right}
-use Rattle.block.specs.Layout.{blockSize, bodySize, name, edition, byte, headerFront, headerBlock}
-use Rattle.block.specs.Reading.{Sealed, blockChecks, headerBytes, headerChecks}
-use Rattle.block.proofs.Bytes.{Alike, block-length, block-at, block-sealed, block-is}
-use Rattle.block.proofs.Face.{stable, unnamed-front}
+use Rattle.seal.specs.Seal.{blockSize, bodySize, byte, Sealed, blockChecks}
+use Rattle.block.specs.Layout.{name, edition, headerFront, headerBlock}
+use Rattle.block.specs.Reading.{headerBytes, headerChecks}
+use Rattle.seal.proofs.Bytes.{Alike, block-length, block-at, block-sealed, block-is}
+use Rattle.seal.proofs.Unnamed.{stable, unnamed-front}
 
 few : (n : ℕ) → length (headerFront n) ≤ bodySize
 few n = omega arith
@@ -76,13 +75,3 @@ header-passes n h =
 pub header-one : (m n : ℕ) → headerBlock m ≡ headerBlock n → m ≡ n
 unfolding headerBlock
 header-one m n e = sym (block-at (headerFront m) (few m) 5 (omega arith)) ∙ ap (λ l. byte l 5) e ∙ block-at (headerFront n) (few n) 5 (omega arith)
-
--- ---- as it is laid: the name, and two bytes after it
-two-more : (l : List ℕ) (n : ℕ) → 2 ≤ length l → take 6 (set (set (name ++ l) 4 edition) 5 n) ≡ headerFront n
-two-more [] n h = absurd (omega arith)
-two-more (a ∷ []) n h = absurd (omega arith)
-two-more (a ∷ b ∷ l) n h = refl
-
-pub header-laid : (l m : List ℕ) (n : ℕ) → length l ≡ blockSize → Front 0 name 4 l m → take 6 (set (set m 4 edition) 5 n) ≡ headerFront n
-header-laid l m n h f =
-    ap (λ m. take 6 (set (set m 4 edition) 5 n)) (front-is 0 name l (omega arith) m f) ∙ two-more (drop 4 l) n (omega (arith, length-drop 4 l))

@@ -1,21 +1,41 @@
 -- Blocks of two bytes and then numbers, as runs and pieces are: when a list is one, and what it tells of its numbers. Assumes nothing.
-use mathlib.Core.Path.{_≡_, sym, _∙_}
-use mathlib.Core.Logic.{⊎-elim}
+use mathlib.Core.Path.{_≡_, sym, ap, _∙_}
+use mathlib.Core.Logic.{_⊎_, inl, inr, ⊎-elim}
 use mathlib.Core.List.{List, _∷_}
 use Prim.Native.Nat.{ℕ, zero, suc, _+_, _*_, _-_, _/_, _%_, _≤_, _<_}
 use native.Mathlib.Omega.{arith}
+use lib.Dec.{leb→le}
 use lib.IntN.{ℤ, pos, negsuc}
-use lib.ListN.{length, getD}
-use lib.Signed.{_≤ℤ_, leZ-yes}
-use mir.Syntax.{w8}
-use mir.Val.{Fits}
-use Rattle.whole.proofs.Order.{le-trans}
-use Rattle.rules.specs.Reach.{Between, Reach, Speed}
-use Rattle.block.specs.Layout.{blockSize, bodySize, byte, word, words, blockOf}
-use Rattle.block.specs.Reading.{Sealed, Half}
-use Rattle.block.proofs.Bytes.{Alike, block-at, block-is}
-use Rattle.block.proofs.Words.{halves, words-length, front-low, front-high, front-low-at, front-high-at}
+use lib.ListN.{length, getD, take, drop}
+use lib.Seq.{getD-take, getD-drop}
+use mir.Syntax.{w8, w32}
+use mir.Val.{Fits, SFits, toZ, ofZ}
+use mir.Facts.{toZ-ofZ}
+use Rattle.whole.proofs.Order.{ℕ-or}
+use Rattle.seal.specs.Seal.{blockSize, bodySize, byte, blockOf, Sealed}
+use Rattle.pair.specs.Pair.{Half, word, words, NumbersOf}
+use Rattle.seal.proofs.Bytes.{Alike, block-at, block-is}
+use Rattle.pair.proofs.Words.{low-at, high-at, words-length, number-at}
+use Rattle.block.specs.Scan.{NumberAt}
 
+-- even or odd
+pub halves : (n : ℕ) → (n % 2 ≡ 0) ⊎ (n % 2 ≡ 0 → ⊥)
+halves n = ⊎-elim (λ (h : n % 2 ≤ 0). inl (omega arith)) (λ (h : 0 < n % 2). inr (λ e. omega arith)) (ℕ-or (n % 2) 0)
+
+-- ---- after a kind and a second byte
+pub front-low-at : (a b : ℕ) (zs : List ℤ) (j : ℕ) → byte (a ∷ b ∷ words zs) (2 + 2 * j) ≡ word (getD zs j (pos 0)) % 256
+front-low-at a b zs j = let e : 2 + 2 * j ≡ suc (suc (2 * j)) = omega arith in rw e (low-at zs j)
+
+pub front-high-at : (a b : ℕ) (zs : List ℤ) (j : ℕ) → byte (a ∷ b ∷ words zs) (3 + 2 * j) ≡ word (getD zs j (pos 0)) / 256
+front-high-at a b zs j = let e : 3 + 2 * j ≡ suc (suc (suc (2 * j))) = omega arith in rw e (high-at zs j)
+
+pub front-low : (a b : ℕ) (zs : List ℤ) (i : ℕ) → 2 ≤ i → i % 2 ≡ 0 → byte (a ∷ b ∷ words zs) i ≡ word (getD zs ((i - 2) / 2) (pos 0)) % 256
+front-low a b zs i h k = let e : 2 + 2 * ((i - 2) / 2) ≡ i = omega arith in rw e at (front-low-at a b zs ((i - 2) / 2))
+
+pub front-high : (a b : ℕ) (zs : List ℤ) (i : ℕ) → 2 ≤ i → (i % 2 ≡ 0 → ⊥) → byte (a ∷ b ∷ words zs) i ≡ word (getD zs ((i - 2) / 2) (pos 0)) / 256
+front-high a b zs i h k = let e : 3 + 2 * ((i - 2) / 2) ≡ i = omega arith in rw e at (front-high-at a b zs ((i - 2) / 2))
+
+-- ---- the block of them
 pub few : (a b : ℕ) (zs : List ℤ) → length zs ≤ 254 → length (a ∷ b ∷ words zs) ≤ bodySize
 few a b zs h = omega (arith, words-length zs)
 
@@ -52,12 +72,26 @@ laid-numbers a b zs h j k =
     let f = block-at (a ∷ b ∷ words zs) (few a b zs h) (3 + 2 * j) (omega arith) ∙ front-high-at a b zs j in
     omega (arith, e, f)
 
--- ---- ranges: what is within reach, two bytes hold
-widen : (low high low′ high′ z : ℤ) → low′ ≤ℤ low → high ≤ℤ high′ → Between low high z → Between low′ high′ z
-widen low high low′ high′ z h k b = record { above = le-trans low′ low z h (b .above); below = le-trans z high high′ (b .below) k }
+-- ---- numbers that were read out of a part of the block
+pub part-number : (l : List ℕ) (first n : ℕ) (zs : List ℤ) → NumbersOf (take n (drop (2 + 2 * first) l)) zs → (j : ℕ) → 2 * j + 1 < n → NumberAt l (first + j) (getD zs j (pos 0))
+part-number l first n zs a j h =
+    let part = take n (drop (2 + 2 * first) l) in
+    let at : (i : ℕ) → i < n → getD part i 0 ≡ byte l (2 + 2 * first + i) = λ i g. getD-take n (drop (2 + 2 * first) l) i 0 g ∙ getD-drop (2 + 2 * first) l i 0 in
+    let s = number-at part zs a j in
+    let d : 2 + 2 * first + 2 * j ≡ 2 + 2 * (first + j) = omega arith in
+    let e : 2 + 2 * first + suc (2 * j) ≡ 3 + 2 * (first + j) = omega arith in
+    record {
+      half = s .half;
+      bits =
+          s .bits
+          ∙ ap (λ m. m + 256 * getD part (suc (2 * j)) 0) (at (2 * j) (omega arith) ∙ ap (byte l) d)
+          ∙ ap (λ m. byte l (2 + 2 * (first + j)) + 256 * m) (at (suc (2 * j)) (omega arith) ∙ ap (byte l) e);
+    }
 
-pub reach-half : (z : ℤ) → Reach z → Half z
-reach-half z = widen (negsuc 16383) (pos 16384) (negsuc 32767) (pos 32767) z (leZ-yes tt) (leZ-yes tt)
+half-fits : (z : ℤ) → Half z → SFits w32 z
+half-fits (pos n) h = record { sfits = let l = leb→le n 32767 (h .below .le) in omega arith }
+half-fits (negsuc n) h = record { sfits = let l = leb→le n 32767 (h .above .le) in omega arith }
 
-pub speed-half : (z : ℤ) → Speed z → Half z
-speed-half z = widen (negsuc 254) (pos 255) (negsuc 32767) (pos 32767) z (leZ-yes tt) (leZ-yes tt)
+-- and as a local has it
+pub part-local : (l : List ℕ) (first n : ℕ) (zs : List ℤ) → NumbersOf (take n (drop (2 + 2 * first) l)) zs → (j : ℕ) → 2 * j + 1 < n → NumberAt l (first + j) (toZ w32 (ofZ w32 (getD zs j (pos 0))))
+part-local l first n zs a j h = let s = part-number l first n zs a j h in rw (toZ-ofZ (half-fits (getD zs j (pos 0)) (s .half))) s

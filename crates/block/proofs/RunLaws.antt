@@ -1,5 +1,6 @@
 -- A run and its block: what a block holds, and that the block of a good run passes. Assumes nothing.
 use mathlib.Core.Path.{_≡_, refl, sym, subst, _∙_}
+use mathlib.Core.Logic.{⊎-elim}
 use mathlib.Core.List.{List, [], _∷_, _++_}
 use Prim.Native.Nat.{ℕ, zero, suc, _+_, _*_, _≤_, _<_}
 use native.Mathlib.Omega.{arith}
@@ -10,20 +11,23 @@ use lib.Signed.{leZ-yes}
 use mir.Syntax.{w8, w32}
 use mir.Val.{Fits, SFits, toZ, ofZ}
 use mir.Facts.{toZ-ofZ, toZ-pos}
+use Rattle.whole.proofs.Order.{ℕ-or}
 use Rattle.rules.specs.Reach.{Run}
 use Rattle.rules.specs.Refusal.{Passes}
 use Rattle.rules.specs.Good.{RunKnown, runChecks}
 use Rattle.rules.proofs.Reach.{run-known}
 use Rattle.rules.proofs.Checks.{passes-append, passes-left, passes-right}
-use Rattle.piece.specs.declared.Run as plain
-use Rattle.piece.specs.Numbers.{runOf}
-use Rattle.block.specs.Layout.{runKind, byte, word, words, runNumbers, runBody, runBlock}
-use Rattle.block.specs.Reading.{Half, RunGood, RunIn, inside, blockChecks, runBytes, runBlockChecks, Word}
+use Rattle.good.specs.declared.Run as plain
+use Rattle.good.specs.Numbers.{runOf}
+use Rattle.block.specs.Layout.{runKind, runNumbers, runBody, runBlock}
+use Rattle.pair.specs.Pair.{word, words, Half, Halves}
+use Rattle.seal.specs.Seal.{byte, blockChecks}
+use Rattle.block.specs.Reading.{RunGood, RunIn, inside, runBytes, runBlockChecks}
 use Rattle.block.specs.Scan.{RunAt}
-use Rattle.block.proofs.Bytes.{block-length, block-at, block-sealed}
-use Rattle.block.proofs.Face.{stable, unnamed-front}
-use Rattle.block.proofs.Words.{half-word, word-one}
-use Rattle.block.proofs.Laid.{few, Numbers, laid-is, laid-numbers, reach-half, speed-half}
+use Rattle.seal.proofs.Bytes.{block-length, block-at, block-sealed}
+use Rattle.seal.proofs.Unnamed.{stable, unnamed-front}
+use Rattle.pair.proofs.Words.{word-one, reach-half, speed-half}
+use Rattle.block.proofs.Laid.{few, Numbers, laid-is, laid-numbers}
 
 -- ---- a good run's numbers
 module _ (r : Run) (p : Passes (runChecks r)) where
@@ -42,16 +46,12 @@ module _ (r : Run) (p : Passes (runChecks r)) where
   pub good-ticks : r .ticks ≤ 4096
   good-ticks = known 6 (omega arith)
 
-  pub good-word : (j : ℕ) → Word (getD (runNumbers r) j (pos 0))
-  good-word zero = half-word (r .start .x) (good-half 0 (omega arith))
-  good-word (suc zero) = half-word (r .start .y) (good-half 1 (omega arith))
-  good-word (suc (suc zero)) = half-word (r .start .z) (good-half 2 (omega arith))
-  good-word (suc (suc (suc zero))) = half-word (r .speed .x) (good-half 3 (omega arith))
-  good-word (suc (suc (suc (suc zero)))) = half-word (r .speed .y) (good-half 4 (omega arith))
-  good-word (suc (suc (suc (suc (suc zero))))) = half-word (r .speed .z) (good-half 5 (omega arith))
-  good-word (suc (suc (suc (suc (suc (suc zero)))))) =
-      record { above = leZ-yes tt; below = record { le = le→leb (r .ticks) 65535 (let h = good-ticks in omega arith) } }
-  good-word (suc (suc (suc (suc (suc (suc (suc j))))))) = record { above = leZ-yes tt; below = leZ-yes tt }
+  pub good-halves : Halves (runNumbers r)
+  good-halves j h =
+      ⊎-elim
+      (λ (g : 6 ≤ j). let e : j ≡ 6 = omega arith in rw e (record { above = leZ-yes tt; below = record { le = le→leb (r .ticks) 32767 (let h = good-ticks in omega arith) } }))
+      (λ (g : j < 6). good-half j g)
+      (ℕ-or 6 j)
 
 -- ---- what a block holds
 module _ (l : List ℕ) (r : plain.Run) (at : RunAt l r) (bytes : (i : ℕ) → Fits w8 (byte l i)) (p : Passes (blockChecks l ++ runBytes l)) where

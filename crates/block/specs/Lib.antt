@@ -1,5 +1,3 @@
 pub mod Layout
 pub mod Reading
 pub mod Scan
-pub mod Verdicts
-pub mod Word

@@ -4,19 +4,19 @@ use crate::layout::MOST;
 use crate::layout::PIECE;
 use crate::layout::RUN;
 use crate::layout::letter;
-use crate::scan::check_unnamed;
-use crate::sums::check_block;
 use refusal::Checked;
 use refusal::Refusal;
+use seal::check_block;
+use seal::check_unnamed;
 ghost use mathlib.Core.Path.{_≡_};
 ghost use mathlib.Core.List.{_++_};
 ghost use lib.ListN.{length};
 ghost use Rattle.refusal.specs.Said.{Finds};
 ghost use Rattle.whole.specs.Decide.{Seeks};
-ghost use Rattle.block.specs.Layout.{blockSize};
-ghost use Rattle.block.specs.Reading.{Misspelt, blockChecks, headerBytes, runBytes, pieceBytes, bytesOf};
+ghost use Rattle.seal.specs.Seal.{blockSize, blockChecks};
+ghost use Rattle.block.specs.Reading.{Misspelt, headerBytes, runBytes, pieceBytes, bytesOf};
 
-pub(crate) enum Kind {
+pub enum Kind {
     Header,
     Run,
     Piece,
@@ -103,7 +103,7 @@ fn check_bytes(block: &[u8], kind: Kind) -> Checked
     }
 }
 
-pub(crate) fn check_kind(block: &[u8], kind: Kind) -> Checked
+pub fn check_kind(block: &[u8], kind: Kind) -> Checked
     ensures { λ r. ⌜ Finds (blockChecks (now (block .entry)) ++ bytesOf kind (now (block .entry))) r ⌝ }
 {
     match check_block(block) {

@@ -4,13 +4,6 @@ ghost use Prim.Native.Nat.{_<_};
 ghost use lib.ListN.{getD};
 ghost use Rattle.block.specs.Layout.{name};
 
-// Every block has so many bytes.
-pub(crate) const SIZE: usize = 512;
-// Its check stands after so many, in two bytes; the last byte.
-pub(crate) const BODY: usize = 510;
-
-pub(crate) const LAST: usize = 511;
-
 // 52 4F 4F 4D
 pub(crate) const NAME: [u8; 4] = [0x52, 0x4F, 0x4F, 0x4D];
 
@@ -18,13 +11,11 @@ pub(crate) const EDITION: u8 = 1;
 // The most pieces of a room.
 pub(crate) const MOST: u32 = 126;
 
-// The lengths of a run's numbers in its block, bytes 2 to 15, and of a piece's, bytes 1 to 267 with the corner count first.
+// The length of a run's numbers in its block, bytes 2 to 15.
 pub(crate) const RUN_BODY: usize = 14;
 
-pub(crate) const PIECE_BODY: usize = 267;
-
 // Byte 0 of a piece block, and of a run block.
-pub(crate) const PIECE: u8 = 1;
+pub const PIECE: u8 = 1;
 
 pub(crate) const RUN: u8 = 2;
 

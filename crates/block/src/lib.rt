@@ -1,32 +1,20 @@
-// Blocks of 512 bytes: a header, a piece or a run as bytes, one block at a time.
-// specs/Layout.antt makes the bytes of each kind, specs/Reading.antt says what reading and writing answer, specs/Verdicts.antt what a verdict on a block answers.
-mod fill;
+// What blocks hold: a header or a run as bytes, one block at a time, and the bytes of each kind that are no numbers.
+// specs/Layout.antt makes the bytes of headers and runs, specs/Reading.antt says what reading and writing answer.
 mod header;
 mod kind;
 mod layout;
-mod parts;
-mod pieces;
 mod runs;
-mod scan;
-mod sums;
-mod verdicts;
-mod word;
 
+use good::Run;
 pub use header::read_header;
 pub use header::write_header;
-pub use parts::is_parts;
-pub use parts::write_parts;
-use piece::Band;
-use piece::Run;
-pub use pieces::read_piece;
-pub use pieces::write_piece;
-pub use pieces::write_piece_body;
-use refusal::Checked;
+pub use kind::Kind;
+pub use kind::check_kind;
+pub use layout::PIECE;
 use refusal::Refusal;
 pub use runs::read_run;
 pub use runs::write_run;
 pub use runs::write_run_body;
-pub use verdicts::verdict_in;
 
 // A header's piece count.
 pub enum HeaderRead {
@@ -37,12 +25,4 @@ pub enum HeaderRead {
 pub enum RunRead {
     Found(Run),
     NoRun(Refusal),
-}
-
-// A piece: its corners stand first in the array, x, y, x, y .., and zeros after them; all is zero where it is refused.
-pub struct PieceRead {
-    pub found: Checked,
-    pub band: Band,
-    pub corners: [i32; 128],
-    pub count: usize,
 }

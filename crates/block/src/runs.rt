@@ -1,24 +1,43 @@
 // A run block.
 use crate::RunRead;
-use crate::fill::finish;
-use crate::fill::lay;
 use crate::kind::Kind;
 use crate::kind::check_kind;
 use crate::layout::RUN;
 use crate::layout::RUN_BODY;
-use crate::layout::SIZE;
-use crate::scan::run_at;
-use piece::Run;
-use piece::check_run;
+use good::Run;
+use good::check_run;
+use pair::read_pairs;
+use pair::write_pairs;
 use refusal::Checked;
 use refusal::Refusal;
+use seal::SIZE;
+use seal::write_parts;
 ghost use mathlib.Core.Path.{_≡_};
 ghost use lib.ListN.{length};
-ghost use Rattle.rules.specs.Refusal.{Passes};
-ghost use Rattle.rules.specs.Good.{runChecks};
-ghost use Rattle.piece.specs.Numbers.{runOf};
-ghost use Rattle.block.specs.Layout.{runBodySize, runBody};
+ghost use Rattle.good.specs.Numbers.{runOf};
+ghost use Rattle.seal.specs.Seal.{blockSize};
 ghost use Rattle.block.specs.Reading.{RunSays, WriteRunBodySays, WriteRunSays};
+ghost use Rattle.block.specs.Scan.{RunAt};
+
+// The numbers where a run's stand; its ticks are unsigned.
+fn run_at(block: &[u8]) -> Run
+    requires { ⌜ length (now block) ≡ blockSize ⌝ }
+    ensures { λ r. ⌜ RunAt (now (block .entry)) r ⌝ }
+{
+    let mut numbers = [0i32; 6];
+    read_pairs(&block[2..14], &mut numbers);
+    let low = block[14] as u32;
+    let high = block[15] as u32;
+    Run {
+        x: numbers[0],
+        y: numbers[1],
+        z: numbers[2],
+        vx: numbers[3],
+        vy: numbers[4],
+        vz: numbers[5],
+        ticks: low + 256 * high,
+    }
+}
 
 pub fn read_run(block: &[u8]) -> RunRead
     ensures { λ r. ⌜ RunSays (now (block .entry)) r ⌝ }
@@ -35,16 +54,6 @@ pub fn read_run(block: &[u8]) -> RunRead
     }
 }
 
-// The numbers of a good run, as they stand in its block.
-fn lay_run(run: Run, bytes: &mut [u8])
-    requires { ⌜ Passes (runChecks (runOf run)) × (length (now bytes) ≡ runBodySize) ⌝ }
-    ensures { λ _. ⌜ now (bytes .exit) ≡ runBody (runOf run) ⌝ }
-{
-    let ticks = run.ticks as i32;
-    let numbers = [run.x, run.y, run.z, run.vx, run.vy, run.vz, ticks];
-    lay(&numbers, bytes);
-}
-
 // The run block's bytes 2 to 15, for whoever has a run among other bytes.
 pub fn write_run_body(run: Run, bytes: &mut [u8]) -> Checked
     ensures { λ r. ⌜ WriteRunBodySays (runOf run) (now (bytes .entry)) (now (bytes .exit)) r ⌝ }
@@ -55,8 +64,9 @@ pub fn write_run_body(run: Run, bytes: &mut [u8]) -> Checked
     match check_run(run) {
         Checked::Refused(x) => Checked::Refused(x),
         Checked::Good => {
-            lay_run(run, bytes);
-            Checked::Good
+            let ticks = run.ticks as i32;
+            let numbers = [run.x, run.y, run.z, run.vx, run.vy, run.vz, ticks];
+            write_pairs(&numbers, bytes)
         }
     }
 }
@@ -67,14 +77,10 @@ pub fn write_run(run: Run, block: &mut [u8]) -> Checked
     if block.len() != SIZE {
         return Checked::Refused(Refusal::Length);
     }
-    match check_run(run) {
+    let mut front = [0u8; 16];
+    front[0] = RUN;
+    match write_run_body(run, &mut front[2..16]) {
         Checked::Refused(x) => Checked::Refused(x),
-        Checked::Good => {
-            block[0] = RUN;
-            block[1] = 0;
-            lay_run(run, &mut block[2..16]);
-            finish(block, 16);
-            Checked::Good
-        }
+        Checked::Good => write_parts(&front, &[], front.len(), block),
     }
 }

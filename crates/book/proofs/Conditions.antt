@@ -8,10 +8,9 @@ use lib.ListN.{length}
 use Rattle.whole.proofs.Order.{ℕ-or}
 use Rattle.rules.specs.Reach.{Run, Piece}
 use Rattle.rules.specs.Refusal.{Passes}
-use Rattle.block.specs.Layout.{byte, blockAt}
-use Rattle.block.specs.Reading.{Sealed}
-use Rattle.block.proofs.Blocks.{nth-length}
-use Rattle.block.proofs.Bytes.{Alike, block-is, block-sealed}
+use Rattle.seal.specs.Seal.{byte, blockAt, Sealed}
+use Rattle.seal.proofs.Blocks.{nth-length}
+use Rattle.seal.proofs.Bytes.{Alike, block-is, block-sealed}
 use Rattle.book.specs.Entry.{keyLength, codeAt, codeEnd, four, opening, entryOf, Sound, Conditions, question, home, Hit}
 use Rattle.book.specs.Ask.{askChecks}
 use Rattle.book.proofs.Look.{named-few, at-front, at-code, at-rest, slot-at}

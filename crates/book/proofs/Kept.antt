@@ -10,9 +10,9 @@ use Rattle.rules.specs.Refusal.{Passes}
 use Rattle.rules.specs.Good.{runChecks, pieceChecks}
 use Rattle.rules.specs.Verdict.{Verdict, verdictChecks, answer}
 use Rattle.rules.proofs.Checks.{passes-left, passes-right}
-use Rattle.block.specs.Layout.{sum, byte, blockOf, filled, blockAt}
-use Rattle.block.proofs.Blocks.{nth-byte}
-use Rattle.block.proofs.Bytes.{repeated, block-length}
+use Rattle.seal.specs.Seal.{sum, byte, blockOf, filled, blockAt}
+use Rattle.seal.proofs.Blocks.{nth-byte}
+use Rattle.seal.proofs.Bytes.{repeated, block-length}
 use Rattle.book.specs.declared.Asked.{Asked}
 use Rattle.book.specs.declared.Asked.the-variants.{Remembered, Worked, Refused}
 use Rattle.book.specs.Entry.{Slots, kind, four, opening, entryOf, question, home, entry, Hit, put}

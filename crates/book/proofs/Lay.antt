@@ -8,10 +8,13 @@ use lib.Seq.{take-at, take-all}
 use Rattle.rules.specs.Reach.{Run, Piece}
 use Rattle.rules.specs.Refusal.{Passes}
 use Rattle.rules.specs.Good.{pieceChecks}
-use Rattle.block.specs.Layout.{runBodySize, byte, sum, filled, runBody, pieceFront, pieceBody}
-use Rattle.block.proofs.Bytes.{sum-same}
-use Rattle.block.proofs.Bodies.{run-body-length, front-length}
-use Rattle.block.proofs.Mid.{mid, mid-length, mid-front, two-length, two-then}
+use Rattle.block.specs.Layout.{runBodySize, runBody}
+use Rattle.piece_block.specs.Layout.{pieceFront, pieceBody}
+use Rattle.seal.specs.Seal.{byte, sum, filled}
+use Rattle.seal.proofs.Bytes.{sum-same}
+use Rattle.block.proofs.Bodies.{run-body-length}
+use Rattle.piece_block.proofs.Bodies.{front-length}
+use Rattle.seal.proofs.Replaced.{mid, mid-length, mid-front, two-length, two-then}
 use Rattle.book.specs.Entry.{slots, keyLength, pieceAt, pieceLength, codeAt, kind, opening, question, home}
 use Rattle.book.specs.Steps.{cleared, Begun}
 use Rattle.book.proofs.Question.{good-length}
@@ -42,7 +45,7 @@ module _ (r : Run) (k : Piece) (few : length (k .corners) ≤ 128) where
   cleared-is end e = ap (filled codeAt) (before-zeros end (named-length ∙ sym e)) ∙ sym padded
 
 -- ---- the run's bytes, and the piece's after them
-module _ (r : Run) (front bytes : List ℕ) (z : front ≡ zeros codeAt) (h : bytes ≡ runBody r) where
+module _ (r : Run) (front bytes : List ℕ) (z : length front ≡ codeAt) (h : bytes ≡ runBody r) where
   abbrev headed : List ℕ
   headed = mid 2 runBodySize (set (set front 0 kind) 1 0) bytes
 
@@ -50,10 +53,10 @@ module _ (r : Run) (front bytes : List ℕ) (z : front ≡ zeros codeAt) (h : by
   bytes-length = ap length h ∙ run-body-length r
 
   fits : 2 + runBodySize ≤ length front
-  fits = omega (arith, ap length z)
+  fits = omega (arith, z)
 
   pub headed-length : length headed ≡ codeAt
-  headed-length = two-length front bytes kind 0 runBodySize fits bytes-length ∙ ap length z
+  headed-length = two-length front bytes kind 0 runBodySize fits bytes-length ∙ z
 
   head : take pieceAt headed ≡ opening (runBody r)
   head = two-then front bytes kind 0 runBodySize fits bytes-length ∙ ap opening h

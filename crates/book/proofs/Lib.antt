@@ -3,6 +3,6 @@ pub mod Slots
 pub mod Kept
 pub mod Lay
 pub mod Look
-pub mod Found
+pub mod Asking
 pub mod Conditions
 pub mod Unique

@@ -7,12 +7,12 @@ use native.Mathlib.Omega.{arith}
 use lib.ListN.{length, take, length-append, length-take, List·getD-append, List·getD-eq-default}
 use lib.Seq.{getD-append-add}
 use Rattle.rules.specs.Reach.{Run}
-use Rattle.block.specs.Layout.{byte, blockOf}
-use Rattle.block.proofs.Bytes.{filled-length, block-at}
+use Rattle.seal.specs.Seal.{byte, blockOf}
+use Rattle.seal.proofs.Bytes.{filled-length, block-at}
 use Rattle.rules.specs.Verdict.{NONE}
-use Rattle.book.specs.declared.slot.Found.the-variants.{Code, Nothing}
+use Rattle.book.specs.declared.slot.Memory.the-variants.{Code, Nothing}
 use Rattle.book.specs.Entry.{codeAt, codeEnd, four, Possible}
-use Rattle.book.specs.Steps.{Coded, Cut, cleared, SoundAfter, Recalls}
+use Rattle.book.specs.Steps.{CodeBytes, Cut, cleared, SoundAfter, Recalls}
 
 pub cleared-length : (front : List ℕ) (end : ℕ) → Cut front end → length (cleared front end) ≡ codeAt
 unfolding cleared
@@ -47,11 +47,11 @@ module _ (slot front : List ℕ) (r : Run) (n : length front ≡ codeAt) where
   code-at : (c : ℕ) → SoundAfter slot front r c → (j : ℕ) → j < 4 → byte slot (codeAt + j) ≡ byte (four c) j
   code-at c s j h = slot-at front c n slot (s .same) (codeAt + j) (omega arith) ∙ at-code front c n j
 
-  sound-code : (c : ℕ) → SoundAfter slot front r c → Coded slot c
+  sound-code : (c : ℕ) → SoundAfter slot front r c → CodeBytes slot c
   sound-code c s = let f = s .fits in let at = code-at c s in omega (arith, code-of c f, at 0 (omega arith), at 1 (omega arith), at 2 (omega arith), at 3 (omega arith))
 
   -- so it remembers the code that its bytes have, or none
-  module _ (code : ℕ) (e : Coded slot code) where
+  module _ (code : ℕ) (e : CodeBytes slot code) where
     its-code : (c : ℕ) → SoundAfter slot front r c → c ≡ code
     its-code c s = sound-code c s ∙ sym e
 

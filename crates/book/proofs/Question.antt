@@ -8,10 +8,13 @@ use lib.Seq.{take-at, drop-at}
 use Rattle.rules.specs.Reach.{Run, Piece}
 use Rattle.rules.specs.Refusal.{Passes}
 use Rattle.rules.specs.Good.{runChecks, pieceChecks}
-use Rattle.block.specs.Layout.{byte, filled, blockOf, runBody, runBlock, pieceBody, pieceBlock}
-use Rattle.block.proofs.Bodies.{run-body-length, piece-body-length}
+use Rattle.seal.specs.Seal.{byte, filled, blockOf}
+use Rattle.block.specs.Layout.{runBody, runBlock}
+use Rattle.piece_block.specs.Layout.{pieceBody, pieceBlock}
+use Rattle.block.proofs.Bodies.{run-body-length}
+use Rattle.piece_block.proofs.Bodies.{piece-body-length}
 use Rattle.block.proofs.RunLaws as runs
-use Rattle.block.proofs.PieceLaws as pieces
+use Rattle.piece_block.proofs.PieceLaws as pieces
 use Rattle.book.specs.Entry.{keyLength, four, opening, entryOf, question}
 use Rattle.book.proofs.Look.{code-of}
 

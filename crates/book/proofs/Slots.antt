@@ -8,9 +8,9 @@ use native.Mathlib.Omega.{arith}
 use lib.ListN.{length, take, drop}
 use lib.Seq.{ext-getD, drop-drop}
 use Rattle.whole.proofs.Order.{ℕ-or}
-use Rattle.block.specs.Layout.{byte, blockAt}
-use Rattle.block.proofs.Blocks.{nth-length, nth-byte, nth-size}
-use Rattle.block.proofs.Mid.{mid, mid-length, mid-part, mid-before, mid-after}
+use Rattle.seal.specs.Seal.{byte, blockAt}
+use Rattle.seal.proofs.Blocks.{nth-length, nth-byte, nth-size}
+use Rattle.seal.proofs.Replaced.{mid, mid-length, mid-part, mid-before, mid-after}
 use Rattle.book.specs.Entry.{Slots, slots, put}
 
 -- a slot is put in the middle of the book

@@ -13,7 +13,7 @@ use Rattle.refusal.specs.declared.Refusal as told
 use Rattle.refusal.proofs.Unique.{refused-one}
 use Rattle.book.specs.declared.Asked.{Asked}
 use Rattle.book.specs.declared.Asked.the-variants.{Remembered, Worked, Refused}
-use Rattle.block.specs.Layout.{blockAt}
+use Rattle.seal.specs.Seal.{blockAt}
 use Rattle.book.specs.Entry.{question, home, Hit}
 use Rattle.book.specs.Ask.{askChecks, AskSays}
 use Rattle.book.proofs.Question.{as-long, entry-key, entry-code, question-run, question-piece}

@@ -7,6 +7,7 @@ use Rattle.rules.specs.Reach.{Run, Piece}
 use Rattle.rules.specs.Refusal.{refuse, Check, Passes, Fault, demand}
 use Rattle.rules.specs.Verdict.{Verdict, verdictChecks, answer}
 use Rattle.refusal.specs.Said.{said}
+use Rattle.seal.specs.Seal.{blockSize}
 use Rattle.book.specs.declared.Asked.{Asked}
 use Rattle.book.specs.declared.Asked.the-variants.{Remembered, Worked, Refused}
 use Rattle.book.specs.Entry.{Slots, home, entry, Hit, put}
@@ -36,5 +37,5 @@ AskSays book after r k (Refused x) = Fault (askChecks book r k) (said x) × (aft
 
 -- ---- books begun empty and written only by asking
 pub data Kept : List ℕ → Type 0 where
-  empty : (n : ℕ) → Kept (replicate (512 * n) 0)
+  empty : (n : ℕ) → Kept (replicate (blockSize * n) 0)
   asked : (book after : List ℕ) (r : Run) (k : Piece) (a : Asked) → Kept book → AskSays book after r k a → Kept after

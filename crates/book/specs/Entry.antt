@@ -6,15 +6,16 @@ use Prim.Native.Nat.{ℕ, suc, _+_, _-_, _*_, _/_, _%_, _≤_, _<_}
 use lib.ListN.{length, take, drop}
 use Rattle.rules.specs.Reach.{Run, Piece}
 use Rattle.rules.specs.Verdict.{NONE}
-use Rattle.block.specs.Layout.{byte, Blocks, blockAt, sum, blockOf, runBody, pieceBody}
-use Rattle.block.specs.Reading.{Sealed}
+use Rattle.seal.specs.Seal.{blockSize, bodySize, byte, Blocks, blockAt, sum, blockOf, Sealed}
+use Rattle.block.specs.Layout.{runBody}
+use Rattle.piece_block.specs.Layout.{pieceBody}
 
 -- 1 to 128 slots of 512 bytes
 abbrev pub Slots : List ℕ → Type 0
-Slots book = Blocks 512 65536 book
+Slots book = Blocks blockSize 65536 book
 
 abbrev pub slots : List ℕ → ℕ
-slots book = length book / 512
+slots book = length book / blockSize
 
 -- ---- the parts of an entry
 -- byte 0
@@ -70,7 +71,7 @@ pub record Conditions (slot key : List ℕ) (ticks c : ℕ) : Type 0 where
   pub fits : c < 4294967296
   pub possible : Possible ticks c
   pub second-zero : byte slot 1 ≡ 0
-  pub rest-zero : (i : ℕ) → codeEnd ≤ i → i < 510 → byte slot i ≡ 0
+  pub rest-zero : (i : ℕ) → codeEnd ≤ i → i < bodySize → byte slot i ≡ 0
 
 -- ---- a question, and its home
 -- the run's bytes and the piece's are the key
@@ -90,4 +91,4 @@ Hit book r k c = Sound (blockAt book (home book r k)) (question r k) (r .ticks) 
 
 -- the book with slot i put in its place
 unfoldable pub put : List ℕ → ℕ → List ℕ → List ℕ
-put book i slot = take (512 * i) book ++ (slot ++ drop (512 * suc i) book)
+put book i slot = take (blockSize * i) book ++ (slot ++ drop (blockSize * suc i) book)

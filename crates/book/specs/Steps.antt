@@ -2,27 +2,27 @@
 use mathlib.Core.Path.{_≡_}
 use mathlib.Core.List.{List, _++_}
 use Prim.Native.Nat.{ℕ, _+_, _*_, _≤_, _<_}
-use lib.ListN.{length, take, replicate}
+use lib.ListN.{length, take}
 use Rattle.rules.specs.Reach.{Run, Piece}
 use Rattle.rules.specs.Refusal.{Passes, Fault}
 use Rattle.rules.specs.Good.{runChecks, pieceChecks}
 use Rattle.rules.specs.Verdict.{Verdict, verdictChecks, answer}
 use Rattle.refusal.specs.Said.{said}
-use Rattle.block.specs.Layout.{byte, filled, blockOf}
+use Rattle.seal.specs.Seal.{byte, filled, blockOf}
 use Rattle.book.specs.declared.Asked.{Asked}
 use Rattle.book.specs.declared.Asked.the-variants.{Remembered, Worked, Refused}
-use Rattle.book.specs.declared.slot.Found.{Found}
-use Rattle.book.specs.declared.slot.Found.the-variants.{Code, Nothing}
+use Rattle.book.specs.declared.slot.Memory.{Memory}
+use Rattle.book.specs.declared.slot.Memory.the-variants.{Code, Nothing}
 use Rattle.book.specs.Entry.{codeAt, question, four, opening, Possible, put}
 
 -- the first bytes of an entry before `end`, and zeros from there to the verdict
 unfoldable pub cleared : List ℕ → ℕ → List ℕ
 cleared front end = filled codeAt (take end front)
 
--- a good run, and zeros to be laid out in
-pub record Blank (r : Run) (front : List ℕ) : Type 0 where
+-- a good run, and the room to lay a question out in
+pub record Ready (r : Run) (front : List ℕ) : Type 0 where
   pub good : Passes (runChecks r)
-  pub blank : front ≡ replicate codeAt 0
+  pub long : length front ≡ codeAt
 
 -- bytes 0 to 282 of a good question, which are zero from `end` on
 pub record Begun (r : Run) (k : Piece) (front : List ℕ) (end : ℕ) : Type 0 where
@@ -36,8 +36,8 @@ pub record Cut (front : List ℕ) (end : ℕ) : Type 0 where
   pub within : end ≤ codeAt
 
 -- the verdict's bytes, low first
-abbrev pub Coded : List ℕ → ℕ → Type 0
-Coded slot c = c ≡ byte slot codeAt + 256 * byte slot (codeAt + 1) + 65536 * byte slot (codeAt + 2) + 16777216 * byte slot (codeAt + 3)
+abbrev pub CodeBytes : List ℕ → ℕ → Type 0
+CodeBytes slot c = c ≡ byte slot codeAt + 256 * byte slot (codeAt + 1) + 65536 * byte slot (codeAt + 2) + 16777216 * byte slot (codeAt + 3)
 
 -- the slot is sound and remembers c of a run, after these first bytes
 pub record SoundAfter (slot first : List ℕ) (r : Run) (c : ℕ) : Type 0 where
@@ -45,7 +45,7 @@ pub record SoundAfter (slot first : List ℕ) (r : Run) (c : ℕ) : Type 0 where
   pub possible : Possible (r .ticks) c
   pub same : slot ≡ blockOf (first ++ four c)
 
-abbrev pub Recalls : List ℕ → List ℕ → Run → Found → Type 0
+abbrev pub Recalls : List ℕ → List ℕ → Run → Memory → Type 0
 Recalls slot first r (Code c) = SoundAfter slot first r c
 Recalls slot first r Nothing = (c : ℕ) → SoundAfter slot first r c → ⊥
 

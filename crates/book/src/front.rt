@@ -1,16 +1,16 @@
 // The bytes of an entry: kind, zero and the question, and apart from them the code.
-use block::write_piece_body;
 use block::write_run_body;
-use piece::Band;
-use piece::Run;
+use good::Run;
+use good::Slab;
+use piece_block::write_piece_body;
 use refusal::Checked;
 ghost use mathlib.Core.Path.{_≡_};
 ghost use Prim.Native.Nat.{_+_, _%_, _<_};
 ghost use lib.ListN.{length};
-ghost use Rattle.piece.specs.Numbers.{runOf, pieceOf};
-ghost use Rattle.block.specs.Layout.{byte, sum};
+ghost use Rattle.good.specs.Numbers.{runOf, pieceOf};
+ghost use Rattle.seal.specs.Seal.{byte, sum};
 ghost use Rattle.book.specs.Entry.{keyLength, codeAt, four};
-ghost use Rattle.book.specs.Steps.{Blank, Begun};
+ghost use Rattle.book.specs.Steps.{Ready, Begun};
 
 // Byte 0 of an entry.
 const KIND: u8 = 3;
@@ -25,14 +25,14 @@ const PIECE: usize = 16;
 pub(crate) const CODE: usize = 2 + KEY;
 
 // Bytes 0 to 282, of every good piece: kind, zero, the run and the piece; answers from where on they are zero.
-pub(crate) fn lay(run: Run, band: Band, corners: &[i32], front: &mut [u8]) -> usize
-    requires { ⌜ Blank (runOf run) (now front) ⌝ }
-    ensures { λ r. ⌜ Begun (runOf run) (pieceOf band (now (corners .entry))) (now (front .exit)) r ⌝ }
+pub(crate) fn lay(run: Run, slab: Slab, corners: &[i32], front: &mut [u8]) -> usize
+    requires { ⌜ Ready (runOf run) (now front) ⌝ }
+    ensures { λ r. ⌜ Begun (runOf run) (pieceOf slab (now (corners .entry))) (now (front .exit)) r ⌝ }
 {
     front[0] = KIND;
     front[1] = 0;
     write_run_body(run, &mut front[2..PIECE]);
-    match write_piece_body(band, corners, &mut front[PIECE..CODE]) {
+    match write_piece_body(slab, corners, &mut front[PIECE..CODE]) {
         Checked::Refused(_) => PIECE,
         Checked::Good => PIECE + 11 + 2 * corners.len(),
     }

@@ -5,24 +5,26 @@ mod slot;
 use crate::front::CODE;
 use crate::front::home_of;
 use crate::front::lay;
-use crate::slot::Found;
+use crate::slot::Memory;
 use crate::slot::keep;
 use crate::slot::look;
-use piece::Band;
+use good::Run;
+use good::Slab;
+use good::check_piece;
+use good::check_run;
 use piece::Coded;
-use piece::Run;
-use piece::check_piece;
-use piece::check_run;
 use piece::coded;
 use piece::verdict;
 use refusal::Checked;
 use refusal::Refusal;
+use seal::SIZE;
 ghost use Prim.Native.Nat.{suc, _*_, _≤_};
 ghost use lib.ListN.{length};
-ghost use Rattle.piece.specs.Numbers.{runOf, pieceOf};
+ghost use Rattle.good.specs.Numbers.{runOf, pieceOf};
+ghost use Rattle.seal.specs.Seal.{blockSize};
 ghost use Rattle.book.specs.Entry.{Slots};
 ghost use Rattle.book.specs.Ask.{AskSays};
-ghost use Rattle.book.specs.Steps.{Blank, Cut, cleared, Works};
+ghost use Rattle.book.specs.Steps.{Ready, Cut, cleared, Works};
 
 // A verdict, coded as in an entry, that was remembered or worked out; or the refusal.
 pub enum Asked {
@@ -38,13 +40,13 @@ fn work(
     front: &[u8],
     end: usize,
     run: Run,
-    band: Band,
+    slab: Slab,
     corners: &[i32],
 ) -> Asked
-    requires { ⌜ (512 * suc at ≤ length (now book)) × Cut (now front) end ⌝ }
-    ensures { λ r. ⌜ Works (now (book .entry)) (now (book .exit)) at (cleared (now (front .entry)) end) (runOf run) (pieceOf band (now (corners .entry))) r ⌝ }
+    requires { ⌜ (blockSize * suc at ≤ length (now book)) × Cut (now front) end ⌝ }
+    ensures { λ r. ⌜ Works (now (book .entry)) (now (book .exit)) at (cleared (now (front .entry)) end) (runOf run) (pieceOf slab (now (corners .entry))) r ⌝ }
 {
-    let code = match coded(verdict(run, band, corners)) {
+    let code = match coded(verdict(run, slab, corners)) {
         Coded::Refused(x) => return Asked::Refused(x),
         Coded::Code(c) => c,
     };
@@ -53,15 +55,15 @@ fn work(
 }
 
 // A good run asks: what is remembered is answered only of a good piece.
-fn answer(book: &mut [u8], run: Run, band: Band, corners: &[i32], front: &mut [u8]) -> Asked
-    requires { ⌜ Slots (now book) × Blank (runOf run) (now front) ⌝ }
-    ensures { λ r. ⌜ AskSays (now (book .entry)) (now (book .exit)) (runOf run) (pieceOf band (now (corners .entry))) r ⌝ }
+fn answer(book: &mut [u8], run: Run, slab: Slab, corners: &[i32], front: &mut [u8]) -> Asked
+    requires { ⌜ Slots (now book) × Ready (runOf run) (now front) ⌝ }
+    ensures { λ r. ⌜ AskSays (now (book .entry)) (now (book .exit)) (runOf run) (pieceOf slab (now (corners .entry))) r ⌝ }
 {
-    let end = lay(run, band, corners, front);
-    let at = home_of(front, book.len() / 512);
+    let end = lay(run, slab, corners, front);
+    let at = home_of(front, book.len() / SIZE);
     match look(book, at, front, end, run) {
-        Found::Nothing => work(book, at, front, end, run, band, corners),
-        Found::Code(c) => match check_piece(band, corners) {
+        Memory::Nothing => work(book, at, front, end, run, slab, corners),
+        Memory::Code(c) => match check_piece(slab, corners) {
             Checked::Refused(x) => Asked::Refused(x),
             Checked::Good => Asked::Remembered(c),
         },
@@ -69,12 +71,12 @@ fn answer(book: &mut [u8], run: Run, band: Band, corners: &[i32], front: &mut [u
 }
 
 // Asks a book for a verdict: a hit is answered as remembered; otherwise it is worked out, and remembered in its home slot.
-pub fn ask(book: &mut [u8], run: Run, band: Band, corners: &[i32]) -> Asked
-    ensures { λ r. ⌜ AskSays (now (book .entry)) (now (book .exit)) (runOf run) (pieceOf band (now (corners .entry))) r ⌝ }
+pub fn ask(book: &mut [u8], run: Run, slab: Slab, corners: &[i32]) -> Asked
+    ensures { λ r. ⌜ AskSays (now (book .entry)) (now (book .exit)) (runOf run) (pieceOf slab (now (corners .entry))) r ⌝ }
 {
     let len = book.len();
-    let slots = len / 512;
-    if len % 512 != 0 {
+    let slots = len / SIZE;
+    if len % SIZE != 0 {
         return Asked::Refused(Refusal::Length);
     }
     if slots < 1 {
@@ -87,5 +89,5 @@ pub fn ask(book: &mut [u8], run: Run, band: Band, corners: &[i32]) -> Asked
         return Asked::Refused(x);
     }
     let mut front = [0u8; CODE];
-    answer(book, run, band, corners, &mut front)
+    answer(book, run, slab, corners, &mut front)
 }

@@ -1,80 +1,95 @@
 // The book: two pieces that share home slot and sum, asked in turn; a forged entry; a damaged one.
 use crate::Q;
 use crate::Score;
-use crate::band;
+use crate::coded;
 use crate::more;
 use crate::run;
+use crate::slab;
 use book::Asked;
+use good::Run;
 use piece::NONE;
-use piece::Run;
 
 // Another piece than Q with the same sum of bytes: its upper edge leans.
 const LEANING: [i32; 8] = [0, 0, 64, 0, 64, 63, 0, 65];
 
-// Just above Q, and on the leaning piece's upper corner after four ticks.
-fn above() -> Run {
-    run(-64, 65, 16, 16, 0, 0, 4)
-}
-
-fn worked(a: Asked, code: u32) -> bool {
+// Worked out, a code; remembered, the same above 32 bits; or the refusal.
+fn answered(a: Asked) -> u64 {
     match a {
-        Asked::Worked(c) => c == code,
-        Asked::Remembered(_) => false,
-        Asked::Refused(_) => false,
+        Asked::Worked(c) => c as u64,
+        Asked::Remembered(c) => c as u64 + REMEMBERED,
+        Asked::Refused(r) => coded(r),
     }
 }
 
-fn remembered(a: Asked, code: u32) -> bool {
-    match a {
-        Asked::Worked(_) => false,
-        Asked::Remembered(c) => c == code,
-        Asked::Refused(_) => false,
-    }
+const REMEMBERED: u64 = 4294967296;
+
+const CLEAR: u64 = NONE as u64;
+
+// What a book answers for a run just above Q, and on the leaning piece's upper corner after four ticks.
+fn ask(pages: &mut [u8], corners: &[i32]) -> u64 {
+    let above = run(-64, 65, 16, 16, 0, 0, 4);
+    answered(book::ask(pages, above, slab(0), corners))
 }
 
-fn shared(s: Score) -> Score {
-    let mut pages = [0u8; 2048];
-    let first = book::ask(&mut pages, above(), band(0), &Q);
-    let s = more(s, b"Q asked: worked out, clear", worked(first, NONE));
-    let again = book::ask(&mut pages, above(), band(0), &Q);
-    let s = more(
+fn asked(s: Score, name: &[u8], pages: &mut [u8], corners: &[i32], answer: u64) -> Score {
+    let a = ask(pages, corners);
+    more(s, name, a == answer)
+}
+
+fn shared(s: Score, pages: &mut [u8]) -> Score {
+    let s = asked(s, b"Q asked: worked out, clear", pages, &Q, CLEAR);
+    let s = asked(
         s,
         b"Q asked again: remembered, clear",
-        remembered(again, NONE),
+        pages,
+        &Q,
+        REMEMBERED + CLEAR,
     );
-    let other = book::ask(&mut pages, above(), band(0), &LEANING);
-    let s = more(
+    let s = asked(
         s,
         b"the leaning piece, same slot and sum: worked out, 1024",
-        worked(other, 1024),
+        pages,
+        &LEANING,
+        1024,
     );
-    let back = book::ask(&mut pages, above(), band(0), &Q);
-    more(s, b"Q asked in turn: worked out, clear", worked(back, NONE))
+    asked(s, b"Q asked in turn: worked out, clear", pages, &Q, CLEAR)
 }
 
-fn forgery(s: Score) -> Score {
-    let mut page = [0u8; 512];
-    book::ask(&mut page, above(), band(0), &Q);
-    // four bytes of 255 made 0: the mark 0 for clear, and both sums as they were
-    page[283] = 0;
-    page[284] = 0;
-    page[285] = 0;
-    page[286] = 0;
-    let told = book::ask(&mut page, above(), band(0), &Q);
-    let s = more(
+fn set(page: &mut [u8], at: usize, byte: u8) {
+    if at < page.len() {
+        page[at] = byte;
+    }
+}
+
+// Four bytes of 255 made 0: the mark 0 for clear, and both sums as they were.
+fn forge(page: &mut [u8]) {
+    set(page, 283, 0);
+    set(page, 284, 0);
+    set(page, 285, 0);
+    set(page, 286, 0);
+}
+
+fn forgery(s: Score, page: &mut [u8]) -> Score {
+    ask(page, &Q);
+    forge(page);
+    asked(
         s,
         b"a forged sound entry: remembered as it says, 0",
-        remembered(told, 0),
-    );
-    page[300] = 1;
-    let mended = book::ask(&mut page, above(), band(0), &Q);
-    more(
-        s,
-        b"a damaged entry: worked out, clear",
-        worked(mended, NONE),
+        page,
+        &Q,
+        REMEMBERED,
     )
 }
 
+fn damage(s: Score, page: &mut [u8]) -> Score {
+    set(page, 300, 1);
+    asked(s, b"a damaged entry: worked out, clear", page, &Q, CLEAR)
+}
+
 pub(crate) fn books(s: Score) -> Score {
-    forgery(shared(s))
+    let mut pages = [0u8; 2048];
+    let s = shared(s, &mut pages);
+    let mut page = [0u8; 512];
+    let s = forgery(s, &mut page);
+    damage(s, &mut page)
 }

@@ -1,11 +1,11 @@
 // OBJ files: a square in two spellings, and files that are refused, with the list as it was.
 use crate::Score;
-use crate::band;
 use crate::coded;
 use crate::more;
+use crate::slab;
 use crate::three;
+use good::Slab;
 use obj::Outline;
-use piece::Band;
 
 // The corner count, or the refusal.
 fn outlined(o: Outline) -> u64 {
@@ -15,49 +15,54 @@ fn outlined(o: Outline) -> u64 {
     }
 }
 
-// Whether two lists of ten numbers are equal.
-fn equal(a: [i32; 10], b: [i32; 10]) -> bool {
-    (a[0] == b[0])
-        & (a[1] == b[1])
-        & (a[2] == b[2])
-        & (a[3] == b[3])
-        & (a[4] == b[4])
-        & (a[5] == b[5])
-        & (a[6] == b[6])
-        & (a[7] == b[7])
-        & (a[8] == b[8])
-        & (a[9] == b[9])
+// Whether two lists are equal.
+fn equal(a: &[i32], b: &[i32]) -> bool {
+    if a.len() != b.len() {
+        return false;
+    }
+    let mut i = 0;
+    while i < a.len() {
+        if a[i] != b[i] {
+            return false;
+        }
+        i += 1;
+    }
+    true
 }
 
-// A file of the square Q: four corners, and the two numbers past them stay.
-fn square(s: Score, name: &[u8], file: &[u8]) -> Score {
-    let mut list = [7i32; 10];
-    let count = outlined(obj::footprint(file, band(0), &mut list));
-    let right = equal(list, [0, 0, 64, 0, 64, 64, 0, 64, 7, 7]);
-    more(s, name, (count == 4) & right)
+// A file with this band into ten numbers, all 7: the answer, and what they are then.
+fn drawn(s: Score, name: &[u8], file: &[u8], slab: Slab, answer: u64, then: &[i32]) -> Score {
+    let mut list = SEVENS;
+    let got = outlined(obj::footprint(file, slab, &mut list));
+    more(s, name, (got == answer) & equal(&list, then))
 }
 
-// A file that is refused with this band, and the list stays.
-fn bad_with(s: Score, name: &[u8], file: &[u8], band: Band, code: u64) -> Score {
-    let mut list = [7i32; 10];
-    let got = outlined(obj::footprint(file, band, &mut list));
-    more(s, name, (got == code) & equal(list, [7i32; 10]))
-}
+const SEVENS: [i32; 10] = [7; 10];
 
-fn bad(s: Score, name: &[u8], file: &[u8], code: u64) -> Score {
-    bad_with(s, name, file, band(0), code)
+// Q's corners, and the two numbers past them stay.
+const SQUARE: [i32; 10] = [0, 0, 64, 0, 64, 64, 0, 64, 7, 7];
+
+// A file that is refused, and the list stays.
+fn bad(s: Score, name: &[u8], file: &[u8], n: usize, a: usize, b: usize) -> Score {
+    drawn(s, name, file, slab(0), three(n, a, b), &SEVENS)
 }
 
 fn squares(s: Score) -> Score {
-    let s = square(
+    let s = drawn(
         s,
         b"OBJ: Q, four corners, and the list's later numbers stay",
         b"v 0 0 0\nv 4 0 0\nv 4 0 -4\nv 0 0 -4\nf 1 2 3 4\n",
+        slab(0),
+        4,
+        &SQUARE,
     );
-    square(
+    drawn(
         s,
         b"OBJ: Q with slashes, signs, negative indices, tabs, returns, lines passed over, no last feed and v below: the same",
         b"# Q\r\nmtllib a.mtl\no Q\r\n\t \r\nv\t+0.0 9 -0\r\n v 4.000\t0.5 0 \r\nvn 0 1 0\nv 004 -1 -4.0\nv -0 +2 -4\r\nvt x\nf\t1/1 -3//2 3/-7/0 -1\r\nv 5 5 5\nv 5 5 999999999",
+        slab(0),
+        4,
+        &SQUARE,
     )
 }
 
@@ -66,47 +71,54 @@ fn lines(s: Score) -> Score {
         s,
         b"OBJ: a return before the end of the file: 14 at 4",
         b"v 0 0 0\nv 4 0 0\nv 4 0 -4\nf 1 2 3\r",
-        three(14, 4, 0),
+        14,
+        4,
+        0,
     );
     let s = bad(
         s,
         b"OBJ: a blank before #: 14 at 2",
         b"# x\n # x\n",
-        three(14, 2, 0),
+        14,
+        2,
+        0,
     );
-    let s = bad(
-        s,
-        b"OBJ: index 0: 15 at 2",
-        b"v 0 0 0\nf 1 0\n",
-        three(15, 2, 0),
-    );
+    let s = bad(s, b"OBJ: index 0: 15 at 2", b"v 0 0 0\nf 1 0\n", 15, 2, 0);
     let s = bad(
         s,
         b"OBJ: index 18446744073709551617: 15 at 2",
         b"v 0 0 0\nf 1 18446744073709551617\n",
-        three(15, 2, 0),
+        15,
+        2,
+        0,
     );
     bad(
         s,
         b"OBJ: index 4 of 3 before a line that is not read: 15 at 4",
         b"v 0 0 0\nv 4 0 0\nv 4 0 -4\nf 1 2 4\nv 1\n",
-        three(15, 4, 0),
+        15,
+        4,
+        0,
     )
 }
 
 fn faces(s: Score) -> Score {
-    let s = bad(s, b"OBJ: an empty file: 16 at 0", b"", three(16, 0, 0));
+    let s = bad(s, b"OBJ: an empty file: 16 at 0", b"", 16, 0, 0);
     let s = bad(
         s,
         b"OBJ: a second face: 16 at 3",
         b"v 0 0 0\nf 1\nf 1\n",
-        three(16, 3, 0),
+        16,
+        3,
+        0,
     );
     bad(
         s,
         b"OBJ: a second face with a bad index: 16 at 3",
         b"v 0 0 0\nf 1\nf 0\n",
-        three(16, 3, 0),
+        16,
+        3,
+        0,
     )
 }
 
@@ -115,31 +127,39 @@ fn corners(s: Score) -> Score {
         s,
         b"OBJ: two corners, one at 1024.000000001: 12 at 1, 0, before 5",
         b"v 0 0 0\nv 1024.000000001 0 0\nf 1 2\n",
-        three(12, 1, 0),
+        12,
+        1,
+        0,
     );
     let s = bad(
         s,
         b"OBJ: 0.062499999: 13 at 0, 1",
         b"v 0 0 0.062499999\nf 1\n",
-        three(13, 0, 1),
+        13,
+        0,
+        1,
     );
     let s = bad(
         s,
         b"OBJ: x out of reach, z off the grid: 12 at 1, 0",
         b"v 0 0 0\nv -1025 0 0.01\nf 1 2\n",
-        three(12, 1, 0),
+        12,
+        1,
+        0,
     );
     bad(
         s,
         b"OBJ: two corners: 5",
         b"v 0 0 0\nv 4 0 0\nf 1 2\n",
-        three(5, 0, 0),
+        5,
+        0,
+        0,
     )
 }
 
 // A bottom out of reach.
-fn deep() -> Band {
-    Band {
+fn deep() -> Slab {
+    Slab {
         bottom: -16385,
         top: 32,
         vx: 0,
@@ -154,22 +174,28 @@ fn pieces(s: Score) -> Score {
         s,
         b"OBJ: Q with z 4 for -4, so clockwise: 9",
         turned,
-        three(9, 0, 0),
+        9,
+        0,
+        0,
     );
-    let s = bad_with(
+    drawn(
         s,
         b"OBJ: the same with bottom -16385: 4 at 2",
         turned,
         deep(),
         three(4, 2, 0),
-    );
-    let mut list = [7i32; 10];
+        &SEVENS,
+    )
+}
+
+fn room(s: Score) -> Score {
+    let mut list = [7i32; 7];
     let file = b"v 0 0 0\nv 4 0 0\nv 4 0 -4\nv 0 0 -4\nf 1 2 3 4\n";
-    let got = outlined(obj::footprint(file, band(0), &mut list[..7]));
-    let right = (got == three(10, 0, 0)) & equal(list, [7i32; 10]);
+    let got = outlined(obj::footprint(file, slab(0), &mut list));
+    let right = (got == three(10, 0, 0)) & equal(&list, &[7i32; 7]);
     more(s, b"OBJ: Q into seven numbers: 10, and they stay", right)
 }
 
 pub(crate) fn files(s: Score) -> Score {
-    pieces(corners(faces(lines(squares(s)))))
+    room(pieces(corners(faces(lines(squares(s))))))
 }

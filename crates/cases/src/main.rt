@@ -1,12 +1,12 @@
 // The examples that are run: each is asked of the public calls and compared with what it should be.
 // A line for each, and a count at the end; the file stdout beside src/ says what must be written.
-use intake::Taken;
+use good::Run;
+use good::Slab;
+use grid::Taken;
 use libc::STDOUT_FILENO;
-use piece::Band;
 use piece::Coded;
 use piece::NONE;
 use piece::Placed;
-use piece::Run;
 use piece::Verdict;
 use refusal::Checked;
 use refusal::Refusal;
@@ -24,6 +24,10 @@ const TURNED: [i32; 8] = [0, 0, 0, 64, 64, 64, 64, 0];
 const CROSSED: [i32; 8] = [0, 0, 64, 64, 64, 0, 0, 64];
 
 const FOLDED: [i32; 8] = [0, 0, 64, 0, 32, 0, 32, 64];
+
+const REACH: [i32; 6] = [-16384, -16384, 16384, -16384, 16384, 16384];
+
+const OVER: [i32; 6] = [-16384, -16384, 16384, -16384, 16385, 16384];
 
 // How many were right, of how many.
 struct Score {
@@ -58,8 +62,8 @@ fn run(x: i32, y: i32, z: i32, vx: i32, vy: i32, vz: i32, ticks: u32) -> Run {
 }
 
 // The band 0 to 32, at a velocity on x.
-fn band(vx: i32) -> Band {
-    Band {
+fn slab(vx: i32) -> Slab {
+    Slab {
         bottom: 0,
         top: 32,
         vx,
@@ -102,138 +106,138 @@ fn where_is(p: Placed) -> u64 {
     }
 }
 
-fn runs(s: Score) -> Score {
-    let slow = piece::verdict(run(-64, 32, 16, 3, 0, 0, 21), band(0), &Q);
-    let s = more(
+// The verdict of a run on corners that move so on x.
+fn ran(s: Score, name: &[u8], r: Run, vx: i32, corners: &[i32], code: u32) -> Score {
+    let v = piece::verdict(r, slab(vx), corners);
+    more(s, name, told(v) == code)
+}
+
+fn slow_runs(s: Score) -> Score {
+    let s = ran(
         s,
         b"run (-64,32,16) at (3,0,0) for 21 on Q: clear",
-        told(slow) == NONE,
+        run(-64, 32, 16, 3, 0, 0, 21),
+        0,
+        &Q,
+        NONE,
     );
-    let met = piece::verdict(run(-64, 32, 16, 8, 0, 0, 8), band(-8), &Q);
-    let s = more(
+    let s = ran(
         s,
         b"run (-64,32,16) at (8,0,0) for 8 on Q at (-8,0,0): 1024",
-        told(met) == 1024,
+        run(-64, 32, 16, 8, 0, 0, 8),
+        -8,
+        &Q,
+        1024,
     );
-    let short = piece::verdict(run(48, 200, 16, 0, -8, 0, 20), band(0), &U);
-    let s = more(
+    ran(
         s,
         b"run (48,200,16) at (0,-8,0) for 20 on U: clear",
-        told(short) == NONE,
-    );
-    let seven = piece::verdict(run(-64, 32, 16, 7, 0, 0, 10), band(0), &Q);
-    let s = more(
-        s,
+        run(48, 200, 16, 0, -8, 0, 20),
+        0,
+        &U,
+        NONE,
+    )
+}
+
+fn runs(s: Score) -> Score {
+    let s = ran(
+        slow_runs(s),
         b"run (-64,32,16) at (7,0,0) for 10 on Q: 2340, not 2341",
-        told(seven) == 2340,
+        run(-64, 32, 16, 7, 0, 0, 10),
+        0,
+        &Q,
+        2340,
     );
-    let fast = piece::verdict(run(-100, 32, 16, 255, 0, 0, 1), band(0), &Q);
-    let s = more(
+    let s = ran(
         s,
         b"run (-100,32,16) at (255,0,0) for 1 on Q: 100",
-        told(fast) == 100,
+        run(-100, 32, 16, 255, 0, 0, 1),
+        0,
+        &Q,
+        100,
     );
-    let falls = piece::verdict(run(32, 32, 40, 0, 0, -1, 16), band(0), &Q);
-    more(
+    ran(
         s,
         b"run (32,32,40) at (0,0,-1) for 16 over Q, from above: 2048",
-        told(falls) == 2048,
+        run(32, 32, 40, 0, 0, -1, 16),
+        0,
+        &Q,
+        2048,
     )
+}
+
+// Where a point lies in U.
+fn placed(s: Score, name: &[u8], x: i32, y: i32, answer: u64) -> Score {
+    let p = piece::place(x, y, &U);
+    more(s, name, where_is(p) == answer)
 }
 
 fn places(s: Score) -> Score {
-    let s = more(
+    let s = placed(s, b"(32,-16) in U: outside", 32, -16, 0);
+    let s = placed(s, b"(48,16) in U: inside", 48, 16, 1);
+    let s = placed(s, b"(48,32) in U: on", 48, 32, 2);
+    let s = placed(s, b"(16385,0) in U: 4 at 2", 16385, 0, three(4, 2, 0));
+    placed(
         s,
-        b"(32,-16) in U: outside",
-        where_is(piece::place(32, -16, &U)) == 0,
-    );
-    let s = more(
-        s,
-        b"(48,16) in U: inside",
-        where_is(piece::place(48, 16, &U)) == 1,
-    );
-    let s = more(
-        s,
-        b"(48,32) in U: on",
-        where_is(piece::place(48, 32, &U)) == 2,
-    );
-    let far = where_is(piece::place(16385, 0, &U));
-    let s = more(s, b"(16385,0) in U: 4 at 2", far == three(4, 2, 0));
-    let high = where_is(piece::place(16384, -16385, &U));
-    more(s, b"(16384,-16385) in U: 4 at 4", high == three(4, 4, 0))
+        b"(16384,-16385) in U: 4 at 4",
+        16384,
+        -16385,
+        three(4, 4, 0),
+    )
+}
+
+// What corners are refused with.
+fn held(s: Score, name: &[u8], corners: &[i32], n: usize, a: usize, b: usize) -> Score {
+    let c = good::check_piece(slab(0), corners);
+    more(s, name, refused(c) == three(n, a, b))
 }
 
 fn footprints(s: Score) -> Score {
-    let s = more(
-        s,
-        b"Q turned round: 9",
-        refused(piece::check_piece(band(0), &TURNED)) == three(9, 0, 0),
-    );
-    let s = more(
-        s,
-        b"crossed: 8 at 0, 2",
-        refused(piece::check_piece(band(0), &CROSSED)) == three(8, 0, 2),
-    );
-    let s = more(
-        s,
-        b"folded: 7 at 1",
-        refused(piece::check_piece(band(0), &FOLDED)) == three(7, 1, 0),
-    );
-    let reach = [-16384i32, -16384, 16384, -16384, 16384, 16384];
-    let s = more(
-        s,
-        b"the ends of reach are taken",
-        refused(piece::check_piece(band(0), &reach)) == 0,
-    );
-    let over = [-16384i32, -16384, 16384, -16384, 16385, 16384];
-    more(
-        s,
-        b"one beyond: 4 at 20",
-        refused(piece::check_piece(band(0), &over)) == three(4, 20, 0),
-    )
+    let s = held(s, b"Q turned round: 9", &TURNED, 9, 0, 0);
+    let s = held(s, b"crossed: 8 at 0, 2", &CROSSED, 8, 0, 2);
+    let s = held(s, b"folded: 7 at 1", &FOLDED, 7, 1, 0);
+    let s = held(s, b"the ends of reach are taken", &REACH, 0, 0, 0);
+    held(s, b"one beyond: 4 at 20", &OVER, 4, 20, 0)
 }
 
-fn miscounted(s: Score, name: &[u8], corners: &[i32]) -> Score {
-    more(
-        s,
-        name,
-        refused(piece::check_piece(band(0), corners)) == three(5, 0, 0),
-    )
+// So many numbers, of a thousand; the remainder only shows that there are so many.
+fn miscounted(s: Score, name: &[u8], n: usize) -> Score {
+    let zeros = [0i32; 1000];
+    held(s, name, &zeros[..n % 1001], 5, 0, 0)
 }
 
 fn lengths(s: Score) -> Score {
-    let none: [i32; 0] = [];
-    let s = miscounted(s, b"no number: 5", &none);
-    let s = miscounted(s, b"1 number: 5", &[0i32; 1]);
-    let s = miscounted(s, b"5 numbers: 5", &[0i32; 5]);
-    let s = miscounted(s, b"7 numbers: 5", &[0i32; 7]);
-    let s = miscounted(s, b"129 numbers: 5", &[0i32; 129]);
-    let s = miscounted(s, b"130 numbers: 5", &[0i32; 130]);
-    miscounted(s, b"1000 numbers: 5", &[0i32; 1000])
+    let s = miscounted(s, b"no number: 5", 0);
+    let s = miscounted(s, b"1 number: 5", 1);
+    let s = miscounted(s, b"5 numbers: 5", 5);
+    let s = miscounted(s, b"7 numbers: 5", 7);
+    let s = miscounted(s, b"129 numbers: 5", 129);
+    let s = miscounted(s, b"130 numbers: 5", 130);
+    miscounted(s, b"1000 numbers: 5", 1000)
+}
+
+// What an exported number is: a grid number, off grid over another, no number, or out of reach.
+fn taken(s: Score, name: &[u8], x: f32, kind: u32, k: i32, below: f32) -> Score {
+    let right = match grid::take(x) {
+        Taken::Grid(n) => (kind == 0) & (n == k),
+        Taken::OffGrid(w) => (kind == 1) & (w == below),
+        Taken::NotNumber => kind == 2,
+        Taken::Beyond => kind == 3,
+    };
+    more(s, name, right)
 }
 
 fn numbers(s: Score) -> Score {
-    let top = match intake::take(1024.0) {
-        Taken::Grid(k) => k == 16384,
-        Taken::OffGrid(_) => false,
-        Taken::NotNumber => false,
-        Taken::Beyond => false,
-    };
-    let s = more(s, b"1024 is taken as 16384", top);
-    let over = match intake::take(1024.0625) {
-        Taken::Grid(_) => false,
-        Taken::OffGrid(_) => false,
-        Taken::NotNumber => false,
-        Taken::Beyond => true,
-    };
-    let s = more(s, b"1024.0625 is out of reach", over);
-    let below = match intake::take(-0.03125) {
-        Taken::Grid(_) => false,
-        Taken::OffGrid(w) => w == -0.0625,
-        Taken::NotNumber => false,
-        Taken::Beyond => false,
-    };
-    more(s, b"-0.03125 is off grid over -0.0625", below)
+    let s = taken(s, b"1024 is taken as 16384", 1024.0, 0, 16384, 0.0);
+    let s = taken(s, b"1024.0625 is out of reach", 1024.0625, 3, 0, 0.0);
+    taken(
+        s,
+        b"-0.03125 is off grid over -0.0625",
+        -0.03125,
+        1,
+        0,
+        -0.0625,
+    )
 }
 
 fn main() {

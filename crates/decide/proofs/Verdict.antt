@@ -19,7 +19,7 @@ use Rattle.decide.specs.Crossing.{flag, parity}
 use Rattle.decide.proofs.Parity.{bit, parity-place, place-parity}
 use Rattle.rules.proofs.Verdict.{mark-answers}
 use Rattle.decide.specs.Span.{Span, ticks, some, first}
-use Rattle.decide.specs.Touch.{touches, pointOf, motion, bandSpan, startPoint, over, onOrInside, meets, code}
+use Rattle.decide.specs.Touch.{touches, pointOf, motion, bandSpan, startPoint, over, onOrInside, firstMark, code}
 use Rattle.decide.proofs.Span.{Proper, In, begin, Clips, clips, turned, both, begins, no-moment, first-mark, between}
 use Rattle.decide.proofs.Touch.{at, diff-le, le-diff}
 use Rattle.decide.proofs.Place.{met-yes, met-no}
@@ -125,7 +125,7 @@ module _ (r : Run) (k : Piece) where
   met = onOrInside (over (span .lowD) corners) (startPoint (pointOf r) (motion r k) span)
 
   pub verdict-right : Ticks (r .ticks) → Verdict r k (answer (code r k))
-  unfolding code meets
+  unfolding code firstMark
   verdict-right ok = go (some span) refl
     where
       lo : Frac

@@ -89,8 +89,8 @@ abbrev pub onOrInside : Ring → Pt → Bool
 onOrInside r p = contact (place r p)
 
 -- the first mark of a point that runs at w within a span
-unfoldable pub meets : Ring → Pt → Pt → Span → ℕ
-meets r p w s = cond (some s) (cond (onOrInside (over (s .lowD) r) (startPoint p w s)) (first s) (touches r p w s (r .size))) NONE
+unfoldable pub firstMark : Ring → Pt → Pt → Span → ℕ
+firstMark r p w s = cond (some s) (cond (onOrInside (over (s .lowD) r) (startPoint p w s)) (first s) (touches r p w s (r .size))) NONE
 
 unfoldable pub code : Run → Piece → ℕ
-code r k = meets (ring (k .corners)) (pointOf r) (motion r k) (bandSpan r k)
+code r k = firstMark (ring (k .corners)) (pointOf r) (motion r k) (bandSpan r k)

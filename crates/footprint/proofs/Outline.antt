@@ -22,7 +22,7 @@ use Rattle.rules.specs.Good.{Same, area}
 use Rattle.rules.proofs.Reach.{between-stable}
 use Rattle.rules.proofs.Ring.{next-ways, next-inner}
 use Rattle.whole.specs.Decide.{Decides, Seeks}
-use Rattle.footprint.specs.Shape.{Holds, Corner, Stray, back, Bend, firstHit, Drawing, equal, bends, wedge}
+use Rattle.footprint.specs.Shape.{HoldsRing, Corner, Stray, back, Bend, firstHit, Drawing, equal, bends, wedge}
 use Rattle.whole.proofs.Decide.{yes, no, truth, none-found}
 use Rattle.footprint.proofs.Steps.{reach-abs}
 use Rattle.footprint.proofs.Shape.{equal-decides, bends-decides}
@@ -55,23 +55,23 @@ pub seeking-done : (Bad : ℕ → Type 0) (n f : ℕ) → Seeking Bad n n f → 
 seeking-done Bad n f s = record { before = λ j a b. s .before j b a; found = λ l. s .found l .1 }
 
 -- ---- reach
-pub size-of : {l : List ℤ} {n : ℕ} → Holds l n → n ≡ ring l .size
+pub size-of : {l : List ℤ} {n : ℕ} → HoldsRing l n → n ≡ ring l .size
 size-of h = let e = h .whole in omega arith
 
 -- of the first m numbers, those of the list are in reach
 abbrev pub Reached : List ℤ → ℕ → Type 0
 Reached l m = (j : ℕ) → j < m → j < length l → Reach (getD l j (pos 0))
 
-pub corner-at : (l : List ℤ) (n m i : ℕ) → Holds l n → Reached l m → 2 * i + 1 < m → i < n → Corner l i
+pub corner-at : (l : List ℤ) (n m i : ℕ) → HoldsRing l n → Reached l m → 2 * i + 1 < m → i < n → Corner l i
 corner-at l n m i h r k b = let e = h .whole in record { below = omega arith; x = r (2 * i) (omega arith) (omega arith); y = r (2 * i + 1) k (omega arith) }
 
 -- neither number of a corner is out of reach
-pub corner-by : (l : List ℤ) (n k s : ℕ) → Holds l n → k < n → Seeks (λ j. Stray l (2 * k + j)) 2 s → 2 ≤ s → Corner l k
+pub corner-by : (l : List ℤ) (n k s : ℕ) → HoldsRing l n → k < n → Seeks (λ j. Stray l (2 * k + j)) 2 s → 2 ≤ s → Corner l k
 corner-by l n k s h b f c =
     let e = h .whole in
     record { below = omega arith; x = rw (add-zero (2 * k)) at (between-stable _ _ _ (none-found f c 0 (omega arith))); y = between-stable _ _ _ (none-found f c 1 (omega arith)) }
 
-reached-more : (l : List ℤ) (n i : ℕ) → Holds l n → i < n → Reached l (2 * i + 2) → Corner l (next n i) → Reached l (2 * (i + 1) + 2)
+reached-more : (l : List ℤ) (n i : ℕ) → HoldsRing l n → i < n → Reached l (2 * i + 2) → Corner l (next n i) → Reached l (2 * (i + 1) + 2)
 reached-more l n i h b r c j a k =
     ⊎-elim (λ (m : 2 * i + 2 ≤ j). ⊎-elim (λ w. new (w .0) (rw (w .1) at c)) (λ w. absurd (let e = h .whole in omega arith)) (next-ways n i b)) (λ (m : j < 2 * i + 2). r j m k)
     (ℕ-or (2 * i + 2) j)
@@ -87,7 +87,7 @@ pub reached-next : (l : List ℤ) (n i : ℕ) → i < n → Reached l (2 * i + 2
 reached-next l n i b r j a = r j (⊎-elim (λ w. omega arith) (λ w. omega arith) (next-ways n i b))
 
 -- the first number out of reach, where those of the corners before are in reach
-pub stray-first : (l : List ℤ) (n k s : ℕ) → Holds l n → k < n → Seeks (λ j. Stray l (2 * k + j)) 2 s → s < 2 → Reached l (2 * k) → First (Stray l) (length l) (2 * k + s)
+pub stray-first : (l : List ℤ) (n k s : ℕ) → HoldsRing l n → k < n → Seeks (λ j. Stray l (2 * k + j)) 2 s → s < 2 → Reached l (2 * k) → First (Stray l) (length l) (2 * k + s)
 stray-first l n k s h b f a r = record { below = let e = h .whole in omega arith; bad = f .found a; before = before }
   where
     own : (j : ℕ) → j < 2 * k + s → 2 * k ≤ j → Stray l j → ⊥
@@ -96,7 +96,7 @@ stray-first l n k s h b f a r = record { below = let e = h .whole in omega arith
     before : (j : ℕ) → j < 2 * k + s → Stray l j → ⊥
     before j c d = ⊎-elim (λ (m : 2 * k ≤ j). own j c m d) (λ (m : j < 2 * k). d (r j m (let e = h .whole in omega arith))) (ℕ-or (2 * k) j)
 
-pub reached-two : (l : List ℤ) (n : ℕ) → Holds l n → Corner l 0 → Reached l 2
+pub reached-two : (l : List ℤ) (n : ℕ) → HoldsRing l n → Corner l 0 → Reached l 2
 reached-two l n h c j a b = ⊎-elim (λ (m : 1 ≤ j). let e : 1 ≡ j = omega arith in rw e at (c .y)) (λ (m : j < 1). let e : 0 ≡ j = omega arith in subst at e (c .x)) (ℕ-or 1 j)
   where
     at : ℕ → Type 0
@@ -138,7 +138,7 @@ later-by r i false h d = λ p. d (p .0, truth _ _ (bends-decides (r .at (i - 1))
 abbrev pub part : Ring → ℕ → ℤ
 part r i = wedge (from r i) (to r i)
 
-module _ (l : List ℤ) (n i e f : ℕ) (twice : ℤ) (h : Holds l n) (p : Passed l n i e f twice) (b : i < n) where
+module _ (l : List ℤ) (n i e f : ℕ) (twice : ℤ) (h : HoldsRing l n) (p : Passed l n i e f twice) (b : i < n) where
   pub corner-here : Corner l i
   corner-here = corner-at l n (2 * i + 2) i h (p .reach) (omega arith) b
 
@@ -172,7 +172,7 @@ module _ (l : List ℤ) (n i e f : ℕ) (twice : ℤ) (h : Holds l n) (p : Passe
         summed q = rw (add-one i, q)
 
 -- ---- all edges done, and corner 0 looked at
-module _ (l : List ℤ) (n e f : ℕ) (twice : ℤ) (h : Holds l n) (p : Passed l n n e f twice) where
+module _ (l : List ℤ) (n e f : ℕ) (twice : ℤ) (h : HoldsRing l n) (p : Passed l n n e f twice) where
   pub corner-all : (j : ℕ) → j < n → Corner l j
   corner-all j b = corner-at l n (2 * n + 2) j h (p .reach) (omega arith) b
 

@@ -16,13 +16,13 @@ use Rattle.decide.specs.Side.{sideOf}
 use Rattle.decide.specs.Touch.{least, most, ranged, sameSide}
 use Rattle.whole.specs.Decide.{Seeks}
 use Rattle.footprint.specs.Table.{AllBoxed}
-use Rattle.footprint.specs.declared.good.Outline.{Outline}
-use Rattle.footprint.specs.declared.good.Outline.the-variants.{Beyond, Drawn}
-use Rattle.footprint.specs.declared.good.Pair.{Pair}
-use Rattle.footprint.specs.declared.good.Pair.the-variants.{NoPair, Edges}
+use Rattle.footprint.specs.declared.checks.Outline.{Outline}
+use Rattle.footprint.specs.declared.checks.Outline.the-variants.{Beyond, Drawn}
+use Rattle.footprint.specs.declared.checks.Pair.{Pair}
+use Rattle.footprint.specs.declared.checks.Pair.the-variants.{NoPair, Edges}
 
 -- the list holds n corners, as many as a footprint has
-pub record Holds (l : List ℤ) (n : ℕ) : Type 0 where
+pub record HoldsRing (l : List ℤ) (n : ℕ) : Type 0 where
   pub corners : Corners n
   pub whole : length l ≡ 2 * n
 
@@ -99,7 +99,7 @@ Ends n i e = ((i ≡ 0) × (e + 1 ≡ n)) ⊎ ((0 < i) × (e ≡ n))
 
 -- n corners within reach, and a table of their edges' boxes
 pub record Tabled (l t : List ℤ) (n : ℕ) : Type 0 where
-  pub held : Holds l n
+  pub held : HoldsRing l n
   pub corners : (j : ℕ) → j < n → Corner l j
   pub room : 4 * n ≤ length t
   pub boxed : AllBoxed (ring l) t n

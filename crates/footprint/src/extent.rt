@@ -15,7 +15,7 @@ ghost use lib.Signed.{ltZ};
 ghost use mir.Syntax.{w16};
 ghost use mir.Val.{SFits};
 ghost use Rattle.rules.specs.Ring.{ring};
-ghost use Rattle.footprint.specs.Shape.{Holds, Corner};
+ghost use Rattle.footprint.specs.Shape.{HoldsRing, Corner};
 ghost use Rattle.footprint.specs.Table.{split, Put, AllBoxed};
 
 // The lower of two numbers, then the higher.
@@ -29,7 +29,7 @@ fn put(t: &mut [i16], u: usize, a: i64, b: i64)
 
 // The boxes of all edges.
 pub(crate) fn fill(l: &[i32], n: usize, t: &mut [i16])
-    requires { ⌜ (Holds (now l) n × ((j : ℕ) → j < n → Corner (now l) j)) × (4 * n ≤ length (now t)) ⌝ }
+    requires { ⌜ (HoldsRing (now l) n × ((j : ℕ) → j < n → Corner (now l) j)) × (4 * n ≤ length (now t)) ⌝ }
     ensures { λ _. ⌜ AllBoxed (ring (now (l .entry))) (now (t .exit)) n ⌝ }
 {
     let mut i: usize = 0;

@@ -1,12 +1,12 @@
 // Which footprints are good, and the leaf functions of numbers and rings that other crates need too.
 // Definitions: the crates `rules`, `refusal` and `decide`.
+mod checks;
 mod extent;
-mod good;
 mod number;
 mod ring;
 
-pub use good::check_footprint;
-pub use good::sized;
+pub use checks::check_footprint;
+pub use checks::sized;
 pub use number::least;
 pub use number::less;
 pub use number::most;

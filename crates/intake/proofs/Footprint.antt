@@ -18,10 +18,10 @@ use Rattle.refusal.specs.Said.{said, Finds}
 use Rattle.refusal.specs.declared.Refusal.{Refusal}
 use Rattle.refusal.specs.declared.Refusal.the-variants.{Corners as Corners', Short}
 use Rattle.refusal.specs.declared.Checked.the-variants.{Good, Refused}
-use Rattle.intake.specs.declared.Taken.the-variants.{Grid}
+use Rattle.grid.specs.declared.Taken.the-variants.{Grid}
 use Rattle.intake.specs.declared.Corner.{Corner}
-use Rattle.intake.specs.Number.{Answer}
-use Rattle.intake.specs.Footprint.{cornerAt, cornersChecks, intakeChecks, Holds, Later}
+use Rattle.grid.specs.Number.{Answer}
+use Rattle.intake.specs.Footprint.{cornerAt, cornersChecks, intakeChecks, HoldsCorners, Later}
 
 -- a number that is taken as k is taken as what equals k
 pub taken : (v : Float) {j k : ℤ} → j ≡ k → Answer v (Grid k) → Answer v (Grid j)
@@ -46,7 +46,7 @@ module _ (cs : List Corner) (i : ℕ) (l : List ℤ) (x y : ℤ) where
     y-there : getD later (2 * i + 1) (pos 0) ≡ y
     y-there = getD-set-same first (2 * i + 1) y (pos 0) (simp length-set room)
 
-    pub hold-more : Holds cs i l → Answer (cornerAt cs i .x) (Grid x) → Answer (cornerAt cs i .y) (Grid y) → Holds cs (i + 1) later
+    pub hold-more : HoldsCorners cs i l → Answer (cornerAt cs i .x) (Grid x) → Answer (cornerAt cs i .y) (Grid y) → HoldsCorners cs (i + 1) later
     hold-more f a b =
         record {
           x = below-more (λ k. Answer (cornerAt cs k .x) (Grid (getD later (2 * k) (pos 0)))) i
@@ -58,7 +58,7 @@ module _ (cs : List Corner) (i : ℕ) (l : List ℤ) (x y : ℤ) where
         }
 
 -- ---- what the checks find
-pub holds-pass : (cs : List Corner) (n : ℕ) (l : List ℤ) → Holds cs n l → Passes (cornersChecks cs n)
+pub holds-pass : (cs : List Corner) (n : ℕ) (l : List ℤ) → HoldsCorners cs n l → Passes (cornersChecks cs n)
 holds-pass cs n l h = rows-pass _ n (λ i k. ((_, h .x i k), ((_, h .y i k), tt)))
 
 -- ---- the checks of an intake, one after the other
@@ -75,7 +75,7 @@ module _ (cs : List Corner) (n size : ℕ) where
   unfolding intakeChecks
   fault-in c l r f = inr (c, inr (l, f))
 
-  pub all-good : Corners n → 2 * n ≤ size → (l : List ℤ) → Holds cs n l → Finds (intakeChecks cs n size) Good
+  pub all-good : Corners n → 2 * n ≤ size → (l : List ℤ) → HoldsCorners cs n l → Finds (intakeChecks cs n size) Good
   unfolding intakeChecks
   all-good c l h k = (c, (l, holds-pass cs n h k))
 
@@ -96,7 +96,7 @@ module _ (cs : List Corner) (n : ℕ) (l before : List ℤ) (all : length l ≡ 
   holds-at : (k : ℕ) → k < 2 * n → getD (fronted front before) k (pos 0) ≡ getD l k (pos 0)
   holds-at k h = laid .first k (omega (arith, long)) ∙ getD-take (2 * n) l k (pos 0) h
 
-  pub put-later : Holds cs n l → Later cs n before Good (fronted front before)
+  pub put-later : HoldsCorners cs n l → Later cs n before Good (fronted front before)
   put-later h = (
     record {
       x = λ i lt. taken (cornerAt cs i .x) (holds-at (2 * i) (omega arith)) (h .x i lt);

@@ -1,10 +1,2 @@
-pub mod Value
-pub mod Bits
-pub mod Exact
-pub mod Raised
-pub mod Whole
-pub mod Number
-pub mod Given
 pub mod Once
 pub mod Footprint
-pub mod Examples

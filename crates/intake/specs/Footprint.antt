@@ -13,12 +13,12 @@ use Rattle.refusal.specs.Said.{said, Finds, Writes}
 use Rattle.refusal.specs.declared.Refusal.{Refusal}
 use Rattle.refusal.specs.declared.Checked.{Checked}
 use Rattle.refusal.specs.declared.Checked.the-variants.{Good, Refused}
-use Rattle.intake.specs.declared.Taken.{Taken}
-use Rattle.intake.specs.declared.Taken.the-variants.{Grid, OffGrid, NotNumber, Beyond}
+use Rattle.grid.specs.declared.Taken.{Taken}
+use Rattle.grid.specs.declared.Taken.the-variants.{Grid, OffGrid, NotNumber, Beyond}
 use Rattle.intake.specs.declared.Corner.{Corner}
 use Rattle.intake.specs.declared.Numbers as declared
 use Rattle.intake.specs.declared.Numbers.the-variants as numbers
-use Rattle.intake.specs.Number.{Answer}
+use Rattle.grid.specs.Number.{Answer}
 
 -- the row of the table for an answer, with corner a and coordinate b
 abbrev pub Row : Taken → ℕ → ℕ → rules.Refusal → Type 0
@@ -48,13 +48,13 @@ unfoldable pub intakeChecks : List Corner → ℕ → ℕ → List Check
 intakeChecks cs n size = demand (Corners n) (refuse 5 0 0) ∷ demand (2 * n ≤ size) (refuse 10 0 0) ∷ cornersChecks cs n
 
 -- the first n corners in a list, x then y
-pub record Holds (cs : List Corner) (n : ℕ) (l : List ℤ) : Type 0 where
+pub record HoldsCorners (cs : List Corner) (n : ℕ) (l : List ℤ) : Type 0 where
   pub x : (i : ℕ) → i < n → Answer (cornerAt cs i .x) (Grid (getD l (2 * i) (pos 0)))
   pub y : (i : ℕ) → i < n → Answer (cornerAt cs i .y) (Grid (getD l (2 * i + 1) (pos 0)))
 
 -- what the lent list holds afterwards: the corners, or what it held
 abbrev pub Later : List Corner → ℕ → List ℤ → Checked → List ℤ → Type 0
-Later cs n before Good later = Holds cs n later × Stays (pos 0) (2 * n) before later
+Later cs n before Good later = HoldsCorners cs n later × Stays (pos 0) (2 * n) before later
 Later cs n before (Refused r) later = later ≡ before
 
 -- an intake: what is answered, and what the lent list holds
@@ -82,5 +82,5 @@ Paired c a (numbers.Refused r) = Fault (cornerChecks c a) (said r)
 
 -- all corners' numbers, or the first fault
 abbrev pub Gathered : List Corner → ℕ → Checked → List ℤ → Type 0
-Gathered cs n Good l = Holds cs n l × (length l ≡ 128)
+Gathered cs n Good l = HoldsCorners cs n l × (length l ≡ 128)
 Gathered cs n (Refused r) l = Fault (cornersChecks cs n) (said r)

@@ -1,3 +1,1 @@
-pub mod Number
-pub mod Bits
 pub mod Footprint

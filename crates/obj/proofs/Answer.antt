@@ -16,9 +16,9 @@ use Rattle.refusal.specs.Said.{said}
 use Rattle.refusal.specs.declared.Refusal.{Refusal}
 use Rattle.obj.specs.declared.Outline.{Outline}
 use Rattle.obj.specs.declared.Outline.the-variants.{Corners, Refused}
-use Rattle.obj.specs.Text.{lines}
-use Rattle.obj.specs.Number.{gridded}
-use Rattle.obj.specs.Line.{Point}
+use Rattle.line.specs.Text.{lines}
+use Rattle.line.specs.Number.{gridded}
+use Rattle.line.specs.Line.{Point}
 use Rattle.obj.specs.File.{Face, none, drawn, faceIn, linesChecks, pointsChecks, corners, cornersChecks, faceChecks, objChecks, ObjSays}
 use Rattle.obj.specs.Steps.{Gathered, drawChecks, Draws}
 use Rattle.obj.proofs.Table.{flat-size}

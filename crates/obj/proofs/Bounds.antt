@@ -7,13 +7,13 @@ use lib.Dec.{eqb}
 use lib.IntN.{ℤ}
 use lib.ListN.{length, getD, take, length-map, length-take}
 use Rattle.whole.proofs.Flag.{by-flag}
-use Rattle.obj.specs.Text.{feed, parts, unreturned, ended, lines}
-use Rattle.obj.specs.Number.{index}
-use Rattle.obj.specs.Line.{Point, Line, passed, other, vertex, face}
+use Rattle.line.specs.Text.{feed, parts, unreturned, ended, lines}
+use Rattle.line.specs.Number.{index}
+use Rattle.line.specs.Line.{Point, Line, passed, other, vertex, face}
 use Rattle.obj.specs.File.{lineAt, above, points, drawn, faced, faceIn}
-use Rattle.obj.proofs.Told.{no}
-use Rattle.obj.proofs.Words.{size, parts-size, words-length}
-use Rattle.obj.proofs.Says.{face-words}
+use Rattle.line.proofs.Told.{no}
+use Rattle.line.proofs.Words.{size, parts-size, words-length}
+use Rattle.line.proofs.Says.{face-words}
 
 -- ---- lines
 unreturned-size : (l : List ℕ) → length (unreturned l) ≤ length l

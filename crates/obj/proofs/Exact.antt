@@ -11,20 +11,16 @@ use lib.IntN.{ℤ, pos, negsuc, natAbs, _*ℤ_}
 use lib.Signed.{_≤ℤ_}
 use Rattle.whole.specs.Fraction.{_≈_}
 use Rattle.whole.proofs.Difference.{ring}
-use Rattle.whole.proofs.Range.{abs-neg, abs-mul}
+use Rattle.whole.proofs.Range.{abs-mul}
 use Rattle.rules.specs.Refusal.{Passes, Fault, refuse}
-use Rattle.intake.specs.Number.{signed, grid, Within}
-use Rattle.intake.proofs.Value.{minus-⊖, signed-mul, size-within}
-use Rattle.obj.specs.Number.{Decimal, value, gridded}
+use Rattle.grid.specs.Number.{signed, grid, Within}
+use Rattle.grid.proofs.Value.{minus-⊖, signed-mul, size-within}
+use Rattle.line.specs.Number.{Decimal, value, gridded}
 use Rattle.obj.specs.File.{decimalChecks}
-use Rattle.obj.specs.Steps.{BEYOND, OFF, NEITHER, entry}
-use Rattle.obj.proofs.Decimals.{sixteen-small}
+use Rattle.line.specs.Calls.{BEYOND, OFF, entry}
+use Rattle.line.proofs.Decimals.{signed-size, gridded-small}
 
 -- ---- plus or minus a over d
-signed-size : (s : Bool) (a : ℕ) → natAbs (signed s a) ≡ a
-signed-size true a = abs-neg (pos a)
-signed-size false a = refl
-
 least : (s : Bool) (a d : ℕ) → a ≤ 1024 * d → (negsuc 1023 *ℤ pos d) ≤ℤ (signed s a *ℤ pos 1)
 least true a d h = simp (minus-⊖, ring) (omega arith)
 least false a d h = simp ring (omega arith)
@@ -58,9 +54,8 @@ module _ (d : Decimal) where
       let r : natAbs k * scale ≡ 16 * d .whole = omega (arith, signed-size (d .negative) (d .whole)) in
       rw (← r) (mul-mod-left (natAbs k) scale)
 
-  gridded-small : Within (value d) → natAbs (gridded d) ≤ 16384
-  unfolding gridded
-  gridded-small w = rw (signed-size (d .negative) (16 * d .whole / scale)) (sixteen-small (d .whole) scale (size w))
+  grid-small : Within (value d) → natAbs (gridded d) ≤ 16384
+  grid-small w = gridded-small d (size w)
 
 -- ---- what the table has of a decimal, told apart
 data Tells (d : Decimal) : Type 0 where
@@ -83,15 +78,6 @@ tells d = by (ltb reach (d .whole)) (eqb left 0) refl refl refl
     by false true h k e = on e (within d (ltb-false reach (d .whole) h)) (on-grid d (eqb-true left 0 k))
     by false false h k e = off e (within d (ltb-false reach (d .whole) h)) (λ g. eqb-false left 0 k (no-rest d (g .0) (g .1)))
 
--- no decimal is as large as what tells that there is none
-pub entry-other : (d : Decimal) → entry d ≡ NEITHER → ⊥
-entry-other d e = by (tells d)
-  where
-    by : Tells d → ⊥
-    by (far h f) = omega (arith, ap natAbs (sym e ∙ h))
-    by (off h w f) = omega (arith, ap natAbs (sym e ∙ h))
-    by (on h w g) = omega (arith, ap natAbs (sym e ∙ h), gridded-small d w)
-
 -- its checks
 module _ (d : Decimal) (a b : ℕ) where
   pub beyond-fault : entry d ≡ BEYOND → Fault (decimalChecks d a b) (refuse 12 a b)
@@ -101,7 +87,7 @@ module _ (d : Decimal) (a b : ℕ) where
       by : Tells d → Fault (decimalChecks d a b) (refuse 12 a b)
       by (far h f) = inl (f, refl)
       by (off h w f) = absurd (omega (arith, ap natAbs (sym e ∙ h)))
-      by (on h w g) = absurd (omega (arith, ap natAbs (sym e ∙ h), gridded-small d w))
+      by (on h w g) = absurd (omega (arith, ap natAbs (sym e ∙ h), grid-small d w))
 
   pub off-fault : entry d ≡ OFF → Fault (decimalChecks d a b) (refuse 13 a b)
   unfolding decimalChecks
@@ -110,7 +96,7 @@ module _ (d : Decimal) (a b : ℕ) where
       by : Tells d → Fault (decimalChecks d a b) (refuse 13 a b)
       by (far h f) = absurd (omega (arith, ap natAbs (sym e ∙ h)))
       by (off h w f) = inr (w, inl (f, refl))
-      by (on h w g) = absurd (omega (arith, ap natAbs (sym e ∙ h), gridded-small d w))
+      by (on h w g) = absurd (omega (arith, ap natAbs (sym e ∙ h), grid-small d w))
 
   pub else-passes : (entry d ≡ BEYOND → ⊥) → (entry d ≡ OFF → ⊥) → Passes (decimalChecks d a b)
   unfolding decimalChecks

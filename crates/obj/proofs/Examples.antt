@@ -5,10 +5,10 @@ use mathlib.Core.List.{List, [], _∷_}
 use Prim.Native.Nat.{ℕ}
 use lib.IntN.{pos, negsuc}
 use lib.ListN.{length}
-use Rattle.obj.specs.Text.{parts, unreturned, ended, lines, filled, words}
-use Rattle.obj.specs.Number.{allDigits, amount, Decimal, isDecimal, decimal, gridded, isCorner, index}
-use Rattle.obj.specs.Line.{Point, passed, other, face, same, among, allCorners, lineOf}
-use Rattle.obj.specs.File.{above, names, Face, none, drawn, faceIn, flat, corners}
+use Rattle.line.specs.Text.{parts, unreturned, ended, lines, filled, words}
+use Rattle.line.specs.Number.{allDigits, amount, Decimal, isDecimal, decimal, gridded, isCorner, index}
+use Rattle.line.specs.Line.{Point, passed, other, face, same, among, allCorners, lineOf, names}
+use Rattle.obj.specs.File.{above, Face, none, drawn, faceIn, flat, corners}
 
 -- what is computed, and what it is
 infix 70 _is_

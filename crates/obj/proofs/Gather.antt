@@ -18,18 +18,19 @@ use Rattle.refusal.specs.Said.{said, Finds}
 use Rattle.refusal.specs.declared.Refusal.{Refusal}
 use Rattle.refusal.specs.declared.Checked.{Checked}
 use Rattle.refusal.specs.declared.Checked.the-variants.{Good, Refused}
-use Rattle.obj.specs.Number.{gridded, isCorner, index}
+use Rattle.line.specs.Number.{gridded, isCorner, index}
 use Rattle.obj.specs.declared.Outline.the-variants as outline
-use Rattle.obj.specs.declared.text.Span.{Span}
-use Rattle.obj.specs.Text.{words}
-use Rattle.obj.specs.Line.{Point, face, lineOf, allCorners}
-use Rattle.obj.specs.File.{names, allNamed, nowhere, points, decimalChecks, pointChecks, pointsChecks, corners}
-use Rattle.obj.specs.Steps.{part, wordsFrom, Word, cornerOr, entry, Tabled, FitBoth, kept, Drafted, Gather}
-use Rattle.obj.proofs.Told.{no}
-use Rattle.obj.proofs.Parts.{drop-some, drop-none}
-use Rattle.obj.proofs.Words.{word-there, word-gone, words-after}
+use Rattle.line.specs.declared.Corner.{Corner}
+use Rattle.line.specs.Text.{words}
+use Rattle.line.specs.Line.{Point, face, lineOf, allCorners, names, allNamed}
+use Rattle.obj.specs.File.{nowhere, points, decimalChecks, pointChecks, pointsChecks, corners}
+use Rattle.line.specs.Calls.{part, wordsFrom, Word, Next, cornerOr, entry}
+use Rattle.obj.specs.Steps.{Tabled, FitBoth, kept, Drafted, Gather}
+use Rattle.line.proofs.Told.{no}
+use Rattle.line.proofs.Parts.{drop-some, drop-none}
+use Rattle.line.proofs.Words.{within-is, word-there, word-gone, words-after}
 use Rattle.obj.proofs.Exact.{entry-grid}
-use Rattle.obj.proofs.Says.{face-words}
+use Rattle.line.proofs.Says.{face-words}
 use Rattle.obj.proofs.Table.{At, point-stored, tabled-at}
 
 -- ---- word i of a face: a corner, whose index names a vertex
@@ -93,14 +94,14 @@ module _ (ps : List Point) (i : ℕ) (list : List ℤ) (x y : ℤ) (h : i < leng
 kept-size : (x y : ℤ) (i : ℕ) (list : List ℤ) → length (kept x y i list) ≡ length list
 kept-size x y i list = by-flag (λ l. length l ≡ length list) (ltb i 64) _ list (λ e. simp length-set) (λ e. refl)
 
--- ---- the face's words from a place on: i corners are passed
-pub record Gathering (line : List ℕ) (k : ℕ) (table list : List ℤ) (from to i : ℕ) : Type 0 where
+-- ---- the face's words from a place on: i corners are passed, and the next names v
+pub record Gathering (line : List ℕ) (k : ℕ) (table list : List ℤ) (from to v i : ℕ) : Type 0 where
   pub order : from ≤ to
   pub below : to ≤ length line
   pub some : from < length line → from < to
+  pub vertex : v ≡ cornerOr k (part from to line)
   pub number : i ≤ from
   pub size : length list ≡ 128
-  pub few : k < 65536
   pub fits : 2 * k ≤ length table
   pub all : List (List ℕ)
   pub count : i ≤ length all
@@ -110,17 +111,23 @@ pub record Gathering (line : List ℕ) (k : ℕ) (table list : List ℤ) (from t
   pub rest : drop i all ≡ wordsFrom line from to
   pub part : (vs : List Point) → k ≡ length vs → Tabled vs table → Part (points vs (map index all)) i list
 
-pub gather-start : (line : List ℕ) (k : ℕ) (table list : List ℤ) (f g : Span) → Drafted line k table list → Word line 0 f → Word line (f .to) g
-    → Gathering line k table list (g .from) (g .to) 0
-gather-start line k table list f g d u v =
+-- a place within the line is looked at as it is
+word-at : (line : List ℕ) (at k : ℕ) (r : Corner) → at ≤ length line → Next line at k r → Word line at (r .from) (r .to)
+word-at line at k r h n = rw (within-is line at h) at (n .word)
+
+pub gather-start : (line : List ℕ) (k : ℕ) (table list : List ℤ) (f g : Corner) → Drafted line k table list → Next line 0 k f → Next line (f .to) k g
+    → Gathering line k table list (g .from) (g .to) (g .vertex) 0
+gather-start line k table list f g d m n =
     let w = face-words line (d .indices) (d .says) in
+    let u = word-at line 0 k f (omega arith) m in
+    let v = word-at line (f .to) k g (u .ends .below) n in
     record {
-      order = v .order;
-      below = v .below;
+      order = v .ends .above;
+      below = v .ends .below;
       some = v .some;
+      vertex = n .vertex;
       number = omega arith;
       size = d .size;
-      few = d .few;
       fits = d .fits;
       all = w .0;
       count = omega arith;
@@ -131,7 +138,7 @@ gather-start line k table list f g d u v =
       part = λ vs q t. part-none _ list;
     }
 
-module _ (line : List ℕ) (k : ℕ) (table list : List ℤ) (from to i : ℕ) (g : Gathering line k table list from to i) where
+module _ (line : List ℕ) (k : ℕ) (table list : List ℤ) (from to v i : ℕ) (g : Gathering line k table list from to v i) where
   -- all are passed
   pub gather-end : length line ≤ from → Gather line k table list (outline.Corners i)
   gather-end h vs ns q e t =
@@ -148,7 +155,7 @@ module _ (line : List ℕ) (k : ℕ) (table list : List ℤ) (from to i : ℕ) (
       }
 
   -- the corner at hand
-  module _ (h : from < length line) (v : ℕ) (c : v ≡ cornerOr k (part from to line)) where
+  module _ (h : from < length line) where
     abbrev w : List ℕ
     w = part from to line
 
@@ -162,7 +169,7 @@ module _ (line : List ℕ) (k : ℕ) (table list : List ℤ) (from to i : ℕ) (
     corner = word-named k (g .all) i w (words (drop to line)) hand (g .corners) (g .named)
 
     names-it : v ≡ names k (index w)
-    names-it = c ∙ rw (corner .0)
+    names-it = g .vertex ∙ rw (corner .0)
 
     pub corner-below : v < k
     corner-below = rw names-it (corner .1)
@@ -197,16 +204,17 @@ module _ (line : List ℕ) (k : ℕ) (table list : List ℤ) (from to i : ℕ) (
       kept-part f vs q t = let n = numbers vs q t in part-more (ps vs q t) i list x y (within vs q t) (g .size) (g .part vs q t) (a ∙ n .0) (b ∙ n .1) (fits Good f vs q t)
 
       -- it is kept
-      pub gather-next : (r : Span) → Word line to r → FitBoth x y i Good → Gathering line k table (kept x y i list) (r .from) (r .to) (i + 1)
-      gather-next r u f =
-          let n = g .number in let s = g .some h in let o = u .above in let c = next .1 in
+      pub gather-next : (r : Corner) → Next line to k r → FitBoth x y i Good → Gathering line k table (kept x y i list) (r .from) (r .to) (r .vertex) (i + 1)
+      gather-next r m f =
+          let u = word-at line to k r (g .below) m in
+          let n = g .number in let s = g .some h in let o = u .begins .above in let c = next .1 in
           record {
-            order = u .order;
-            below = u .below;
+            order = u .ends .above;
+            below = u .ends .below;
             some = u .some;
+            vertex = m .vertex;
             number = omega arith;
             size = kept-size x y i list ∙ g .size;
-            few = g .few;
             fits = g .fits;
             all = g .all;
             count = omega arith;

@@ -1,13 +1,5 @@
-pub mod Told
-pub mod Seek
-pub mod Parts
-pub mod Words
 pub mod Lines
-pub mod Digits
-pub mod Decimals
 pub mod Exact
-pub mod Corners
-pub mod Says
 pub mod Table
 pub mod Seen
 pub mod Gather

@@ -11,9 +11,10 @@ use borrow.Author.Tests.{le-leb, lt-leb, lt-ltb, le-ltb, eq-eqb, ne-eqb}
 use lib.Dec.{leb}
 use lib.ListN.{length, getD, drop}
 use lib.Seq.{getD-take, getD-drop, take-take}
-use Rattle.obj.specs.Text.{feed, unreturned, ended, lines}
-use Rattle.obj.specs.Steps.{part, Until, either, lineFrom}
-use Rattle.obj.proofs.Parts.{drop-some, part-size, some-part, next-part, last-part, until-one}
+use Rattle.line.specs.Text.{feed, unreturned, ended, lines}
+use Rattle.line.specs.Calls.{part, Until}
+use Rattle.obj.specs.Steps.{lineFrom}
+use Rattle.line.proofs.Parts.{drop-some, part-size, some-part, next-part, last-part}
 
 -- ---- where a line ends
 module _ (file : List ℕ) (at end : ℕ) where
@@ -68,13 +69,12 @@ all-lines s = rw (le-leb 0 (length s) (omega arith))
 pub no-lines : (s : List ℕ) (at : ℕ) → length s < at → linesFrom s at ≡ []
 no-lines s at h = rw (lt-leb at (length s) h)
 
-module _ (s : List ℕ) (at end : ℕ) (h : at ≤ length s) (u : Until (either 10 10) s at end) where
+module _ (s : List ℕ) (at end : ℕ) (h : at ≤ length s) (u : Until feed s at end) where
   step-line : linesFrom s at ≡ lineFrom s at end ∷ linesFrom s (end + 1)
   step-line =
-      let v = until-one 10 s at end u in
       ⊎-elim
-      (λ e. rw (le-leb at (length s) h, le-ltb end (length s) (omega arith), no-lines s (end + 1) (omega arith)) (last-line s at end v e))
-      (λ g. rw (le-leb at (length s) h, lt-ltb end (length s) g, le-leb (end + 1) (length s) (omega arith), add-one) (next-line s at end v g))
+      (λ e. rw (le-leb at (length s) h, le-ltb end (length s) (omega arith), no-lines s (end + 1) (omega arith)) (last-line s at end u e))
+      (λ g. rw (le-leb at (length s) h, lt-ltb end (length s) g, le-leb (end + 1) (length s) (omega arith), add-one) (next-line s at end u g))
       (eq-or-lt-of-le (u .below))
 
   -- line n begins here

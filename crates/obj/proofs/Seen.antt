@@ -11,14 +11,15 @@ use lib.ListN.{length, drop, set, length-append}
 use Rattle.rules.specs.Refusal.{Refusal, Passes, Fault, refuse, rows}
 use Rattle.rules.proofs.Checks.{passes-append, rows-fault}
 use Rattle.obj.specs.declared.pass.Seen.{Seen}
-use Rattle.obj.specs.Text.{lines}
-use Rattle.obj.specs.Line.{Point, Line, passed, other, vertex, face, lineOf}
-use Rattle.obj.specs.File.{lineAt, more, above, allNamed, none, faced, faceIn, lineChecks, linesChecks}
-use Rattle.obj.specs.Steps.{part, entry, Tabled, FaceSeen, Holds, Ready, Gone, Scanned, Faced, Until, either, lineFrom}
-use Rattle.obj.proofs.Told.{no}
-use Rattle.obj.proofs.Parts.{drop-none, part-size}
+use Rattle.line.specs.Text.{feed, lines}
+use Rattle.line.specs.Line.{Point, Line, passed, other, vertex, face, lineOf, allNamed}
+use Rattle.obj.specs.File.{lineAt, more, above, none, faced, faceIn, lineChecks, linesChecks}
+use Rattle.line.specs.Calls.{part, entry, Until}
+use Rattle.obj.specs.Steps.{Tabled, FaceSeen, SeenTo, Ready, Gone, Scanned, Faced, lineFrom}
+use Rattle.line.proofs.Told.{no}
+use Rattle.line.proofs.Parts.{drop-none, part-size}
 use Rattle.obj.proofs.Lines.{linesFrom, all-lines, no-lines, line-at}
-use Rattle.obj.proofs.Says.{vertex-long}
+use Rattle.line.proofs.Says.{vertex-long}
 use Rattle.obj.proofs.Table.{Keeps, kept-past, tabled-more}
 
 -- what was seen, with some number of vertices; a face, its line from here up to there
@@ -64,8 +65,8 @@ module _ (file : List ℕ) (n : ℕ) where
     unfolding lineChecks
     plain-passes f g = (λ q. f (sym e ∙ q), (λ s. g (s .indices) (sym e ∙ s .line), (λ ns q. absurd (g ns (sym e ∙ q)), tt)))
 
-  module _ (seen : Seen) (table : List ℤ) (holds : Holds file n seen table) where
-    pub passed-holds : lineAt file n ≡ passed → Holds file (suc n) seen table
+  module _ (seen : Seen) (table : List ℤ) (holds : SeenTo file n seen table) where
+    pub passed-holds : lineAt file n ≡ passed → SeenTo file (suc n) seen table
     passed-holds e = record {
       count = holds .count ∙ sym (ap length (above-next passed e));
       tabled = subst (λ vs. Tabled vs table) (sym (above-next passed e)) (holds .tabled);
@@ -73,7 +74,7 @@ module _ (file : List ℕ) (n : ℕ) where
     }
 
     pub vertex-holds : (p : Point) (x y : ℤ) → lineAt file n ≡ vertex p → x ≡ entry (p .x) → y ≡ entry (p .y) → 2 * seen .vertices + 1 < length table
-        → Holds file (suc n) (counting (seen .vertices + 1) seen) (set (set table (2 * seen .vertices) x) (2 * seen .vertices + 1) y)
+        → SeenTo file (suc n) (counting (seen .vertices + 1) seen) (set (set table (2 * seen .vertices) x) (2 * seen .vertices + 1) y)
     vertex-holds p x y e f g room =
         let c = holds .count in
         let l = length-append (above file n) (p ∷ []) in
@@ -94,7 +95,7 @@ module _ (file : List ℕ) (n : ℕ) where
       )
 
       pub face-holds : (from to : ℕ) → from ≤ to → to ≤ length file → lineOf (part from to file) ≡ face ns → allNamed (seen .vertices) ns ≡ true
-          → Holds file (suc n) (facing from to seen) table
+          → SeenTo file (suc n) (facing from to seen) table
       face-holds from to h k f g = record {
         count = holds .count ∙ sym (ap length (above-next (face ns) e));
         tabled = subst (λ vs. Tabled vs table) (sym (above-next (face ns) e)) (holds .tabled);
@@ -152,7 +153,7 @@ pub record Under (file : List ℕ) (table : List ℤ) (seen : Seen) (at n : ℕ)
   pub room : 8 * seen .vertices ≤ at
   pub rest : drop n (lines file) ≡ linesFrom file at
   pub passes : Passes (linesChecks file n)
-  pub holds : Holds file n seen table
+  pub holds : SeenTo file n seen table
 
 pub under-start : (file : List ℕ) (table : List ℤ) → length table ≡ 16384 → Under file table (record { vertices = 0; face = false; from = 0; to = 0; above = 0 }) 0 0
 unfolding rows above faceIn
@@ -175,7 +176,7 @@ module _ (file : List ℕ) (table : List ℤ) (seen : Seen) (at n : ℕ) (u : Un
       let m = u .count in let e : n ≡ length (lines file) = omega arith in
       record { passes = rw e at (u .passes); room = let p = u .place in let r = u .room in omega arith; holds = rw e at (u .holds) }
 
-  module _ (end stop : ℕ) (h : at ≤ length file) (f : Until (either 10 10) file at end) where
+  module _ (end stop : ℕ) (h : at ≤ length file) (f : Until feed file at end) where
     pub under-ready : length file ≤ 65536 → at ≤ stop → stop ≤ end → part at stop file ≡ lineFrom file at end → Ready file at stop n seen table
     under-ready short a b e =
         let p = u .place in let m = u .number in let q = f .below in

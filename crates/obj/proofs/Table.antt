@@ -9,10 +9,11 @@ use lib.Seq.{getD-append-seam, getD-set-other}
 use mir.Syntax.{w64}
 use mir.Val.{Fits}
 use Rattle.whole.proofs.Front.{stored}
-use Rattle.obj.specs.Number.{Decimal}
-use Rattle.obj.specs.Line.{Point}
+use Rattle.line.specs.Number.{Decimal}
+use Rattle.line.specs.Line.{Point}
 use Rattle.obj.specs.File.{nowhere, flat}
-use Rattle.obj.specs.Steps.{entry, Tabled}
+use Rattle.line.specs.Calls.{entry}
+use Rattle.obj.specs.Steps.{Tabled}
 
 -- the two places of point i, and where they begin in bytes, are numbers of the machine
 pub record Places (i : ℕ) : Type 0 where

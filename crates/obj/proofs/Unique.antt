@@ -14,9 +14,9 @@ use Rattle.refusal.specs.Said.{said}
 use Rattle.refusal.proofs.Unique.{refused-one}
 use Rattle.obj.specs.declared.Outline.{Outline}
 use Rattle.obj.specs.declared.Outline.the-variants.{Corners, Refused}
-use Rattle.obj.specs.Text.{lines}
-use Rattle.obj.specs.Number.{Decimal}
-use Rattle.obj.specs.Line.{Point}
+use Rattle.line.specs.Text.{lines}
+use Rattle.line.specs.Number.{Decimal}
+use Rattle.line.specs.Line.{Point}
 use Rattle.obj.specs.File.{Face, none, drawn, faceIn, nowhere, lineChecks, linesChecks, decimalChecks, pointChecks, pointsChecks, corners, cornersChecks, faceChecks, objChecks, Drawn, ObjSays}
 
 sharp-line : (file : List ℕ) (i : ℕ) → AllSharp (lineChecks file i)

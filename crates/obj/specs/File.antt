@@ -1,10 +1,9 @@
 -- Request 1: the footprint of a file, its refusals in their order, and what the call answers. Assumes nothing.
 use mathlib.Core.Path.{_≡_}
-use mathlib.Core.Bool.{Bool, true, cond, _&&_}
+use mathlib.Core.Bool.{true}
 use mathlib.Core.List.{List, [], _∷_, _++_, map}
-use Prim.Native.Nat.{ℕ, zero, suc, _*_, _-_, _≤_}
-use lib.Dec.{ltb}
-use lib.IntN.{ℤ, pos, negsuc}
+use Prim.Native.Nat.{ℕ, zero, suc, _*_, _≤_}
+use lib.IntN.{ℤ}
 use lib.ListN.{length, getD}
 use Rattle.whole.specs.Fraction.{_≈_}
 use Rattle.whole.specs.Front.{fronted}
@@ -12,12 +11,12 @@ use Rattle.rules.specs.Reach.{Piece}
 use Rattle.rules.specs.Refusal.{Check, Passes, Fault, demand, refuse, rows}
 use Rattle.rules.specs.Good.{pieceChecks}
 use Rattle.refusal.specs.Said.{said}
-use Rattle.intake.specs.Number.{grid, Within}
+use Rattle.grid.specs.Number.{grid, Within}
 use Rattle.obj.specs.declared.Outline.{Outline}
 use Rattle.obj.specs.declared.Outline.the-variants.{Corners, Refused}
-use Rattle.obj.specs.Text.{lines}
-use Rattle.obj.specs.Number.{Decimal, naught, value, gridded}
-use Rattle.obj.specs.Line.{Point, Line, passed, other, vertex, face, lineOf}
+use Rattle.line.specs.Text.{lines}
+use Rattle.line.specs.Number.{Decimal, naught, value, gridded}
+use Rattle.line.specs.Line.{Point, Line, passed, other, vertex, face, lineOf, names, allNamed}
 
 -- line i of a file, from 0
 abbrev pub lineAt : List ℕ → ℕ → Line
@@ -33,16 +32,6 @@ more other vs = vs
 unfoldable pub above : List ℕ → ℕ → List Point
 above file zero = []
 above file (suc n) = more (lineAt file n) (above file n)
-
--- which of k vertices an index names: the n-th from 1, or counted back from the last; k where it names none
-unfoldable pub names : ℕ → ℤ → ℕ
-names k (pos zero) = k
-names k (pos (suc i)) = cond (ltb i k) i k
-names k (negsuc i) = cond (ltb i k) (k - suc i) k
-
-unfoldable pub allNamed : ℕ → List ℤ → Bool
-allNamed k [] = true
-allNamed k (n ∷ ns) = ltb (names k n) k && allNamed k ns
 
 -- the points that indices name
 abbrev pub nowhere : Point

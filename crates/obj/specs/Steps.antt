@@ -1,122 +1,32 @@
--- What the single steps of the reading compute. Assumes nothing.
+-- What the single steps of reading a file compute. Assumes nothing.
 use mathlib.Core.Path.{_≡_}
-use mathlib.Core.Bool.{Bool, true, false, cond, _||_}
+use mathlib.Core.Bool.{Bool, true, false, cond}
 use mathlib.Core.List.{List, [], _∷_, _++_}
-use Prim.Native.Nat.{ℕ, suc, _+_, _*_, _-_, _/_, _%_, _^_, _≤_, _<_}
-use lib.Dec.{eqb, ltb}
+use Prim.Native.Nat.{ℕ, suc, _+_, _*_, _/_, _≤_, _<_}
+use lib.Dec.{ltb}
 use lib.IntN.{ℤ, pos}
-use lib.ListN.{length, getD, set, take, drop}
-use Rattle.rules.specs.Reach.{Piece}
+use lib.ListN.{length, getD, set}
 use Rattle.whole.specs.Front.{fronted}
+use Rattle.rules.specs.Reach.{Piece}
 use Rattle.rules.specs.Refusal.{Check, Passes, Fault, demand, refuse}
 use Rattle.rules.specs.Good.{pieceChecks}
 use Rattle.refusal.specs.Said.{said, Finds}
 use Rattle.refusal.specs.declared.Checked.{Checked}
-use Rattle.intake.specs.Number.{signed}
+use Rattle.line.specs.Text.{lines, unreturned}
+use Rattle.line.specs.Number.{Decimal}
+use Rattle.line.specs.Line.{Point, face, lineOf, allNamed}
+use Rattle.line.specs.Calls.{part, entry}
 use Rattle.obj.specs.declared.Outline.{Outline}
 use Rattle.obj.specs.declared.Outline.the-variants as outline
-use Rattle.obj.specs.declared.text.Span.{Span}
-use Rattle.obj.specs.declared.line.Said.{Said}
-use Rattle.obj.specs.declared.line.Said.the-variants as says
 use Rattle.obj.specs.declared.pass.Seen.{Seen}
 use Rattle.obj.specs.declared.pass.Stepped.{Stepped}
 use Rattle.obj.specs.declared.pass.Stepped.the-variants as stepped
-use Rattle.obj.specs.Text.{point, parts, lines, unreturned, words}
-use Rattle.obj.specs.Number.{Decimal, isPointed, pointed, turned, gridded, number, few, digits, minus, past, isDecimal, decimal, isWhole, isCorner, index}
-use Rattle.obj.specs.Line.{Point, Line, passed, other, vertex, face, lineOf}
-use Rattle.obj.specs.File.{above, names, allNamed, points, flat, Face, none, drawn, faceIn, linesChecks, lineChecks, decimalChecks, pointsChecks, corners}
+use Rattle.obj.specs.File.{above, points, flat, none, drawn, faceIn, linesChecks, lineChecks, decimalChecks, pointsChecks, corners}
 
--- ---- text
--- what stands from here up to there
-abbrev pub part : ℕ → ℕ → List ℕ → List ℕ
-part from to s = take (to - from) (drop from s)
-
--- the first place from here on where p holds of the byte, or the end
-pub record Until (p : ℕ → Bool) (s : List ℕ) (from to : ℕ) : Type 0 where
-  pub above : from ≤ to
-  pub below : to ≤ length s
-  pub none : (k : ℕ) → from ≤ k → k < to → p (getD s k 0) ≡ false
-  pub at : to < length s → p (getD s to 0) ≡ true
-
--- one of two bytes
-abbrev pub either : ℕ → ℕ → ℕ → Bool
-either a b c = eqb c a || eqb c b
-
--- the words of a line from a word on; none where that begins at the end
-abbrev pub wordsFrom : List ℕ → ℕ → ℕ → List (List ℕ)
-wordsFrom line from to = cond (ltb from (length line)) (part from to line ∷ words (drop to line)) []
-
--- the next word from here on
-pub record Word (line : List ℕ) (at : ℕ) (r : Span) : Type 0 where
-  pub above : at ≤ r .from
-  pub order : r .from ≤ r .to
-  pub below : r .to ≤ length line
-  pub some : r .from < length line → r .from < r .to
-  pub words : words (drop at line) ≡ wordsFrom line (r .from) (r .to)
-
+-- ---- lines
 -- a line without its end
 abbrev pub lineFrom : List ℕ → ℕ → ℕ → List ℕ
 lineFrom file at end = cond (ltb end (length file)) (unreturned (part at end file)) (part at end file)
-
--- ---- numbers
--- no number
-abbrev pub NOT : ℕ
-NOT = 0xFFFFFFFF
-
--- a number that no file has as many vertices as
-abbrev pub saturated : ℕ → ℕ
-saturated n = cond (ltb n 65536) n 65536
-
-abbrev pub fewOr : List ℕ → ℕ
-fewOr w = cond (few w) (number w) NOT
-
-abbrev pub digitsOr : List ℕ → ℕ
-digitsOr w = cond (digits w) (saturated (number w)) NOT
-
-abbrev pub wholeOr : List ℕ → ℕ
-wholeOr w = cond (isWhole w) (saturated (number (past (minus w) w))) NOT
-
--- which of k vertices plus or minus any number names that saturates to n
-abbrev pub Named : ℕ → Bool → ℕ → ℕ → Type 0
-Named n s k v = (m : ℕ) → n ≡ saturated m → v ≡ names k (signed s m)
-
-abbrev pub cornerOr : ℕ → List ℕ → ℕ
-cornerOr k w = cond (isCorner w) (names k (index w)) NOT
-
--- a decimal as the table has it: its grid number, or which refusal it gets
-abbrev pub BEYOND : ℤ
-BEYOND = pos 65536
-
-abbrev pub OFF : ℤ
-OFF = pos 65537
-
-abbrev pub NEITHER : ℤ
-NEITHER = pos 65538
-
-unfoldable pub entry : Decimal → ℤ
-entry d = cond (ltb (1024 * 10 ^ d .places) (d .whole)) BEYOND (cond (eqb (16 * d .whole % 10 ^ d .places) 0) (gridded d) OFF)
-
--- the same of minus or plus whole/scale, scale a power of ten
-abbrev pub Entered : Bool → ℕ → ℕ → ℤ → Type 0
-Entered s w scale e = (places : ℕ) → scale ≡ 10 ^ places → e ≡ entry (record { negative = s; whole = w; places = places })
-
-abbrev pub pointedOr : Bool → List ℕ → ℤ
-pointedOr s w = cond (isPointed (parts point w)) (entry (pointed s (parts point w))) NEITHER
-
-abbrev pub turnedIf : Bool → Decimal → Decimal
-turnedIf true d = turned d
-turnedIf false d = d
-
-abbrev pub decimalOr : Bool → List ℕ → ℤ
-decimalOr t w = cond (isDecimal w) (entry (turnedIf t (decimal w))) NEITHER
-
--- ---- lines
--- what a line says, with k vertices above it
-abbrev pub saidOf : ℕ → Line → Said
-saidOf k passed = says.Passed
-saidOf k other = says.Other
-saidOf k (vertex p) = says.Vertex (entry (p .x)) (entry (p .y))
-saidOf k (face ns) = says.Face (allNamed k ns)
 
 -- the vertices stand in the table
 abbrev pub Tabled : List Point → List ℤ → Type 0
@@ -140,7 +50,7 @@ FaceSeen file n seen table false = faceIn file n ≡ none
 FaceSeen file n seen table true = Faced file n seen table
 
 -- what was seen of the first n lines
-pub record Holds (file : List ℕ) (n : ℕ) (seen : Seen) (table : List ℤ) : Type 0 where
+pub record SeenTo (file : List ℕ) (n : ℕ) (seen : Seen) (table : List ℤ) : Type 0 where
   pub count : seen .vertices ≡ length (above file n)
   pub tabled : Tabled (above file n) table
   pub face : FaceSeen file n seen table (seen .face)
@@ -154,13 +64,13 @@ pub record Ready (file : List ℕ) (at stop n : ℕ) (seen : Seen) (table : List
   pub number : n ≤ 65536
   pub size : length table ≡ 16384
   pub room : 8 * seen .vertices ≤ at
-  pub holds : Holds file n seen table
+  pub holds : SeenTo file n seen table
 
 -- what is then known: it passes and is seen too, or its refusal
 pub record Gone (file : List ℕ) (stop n : ℕ) (seen : Seen) (table : List ℤ) : Type 0 where
   pub passes : Passes (lineChecks file n)
   pub room : 8 * seen .vertices ≤ stop + 1
-  pub holds : Holds file (suc n) seen table
+  pub holds : SeenTo file (suc n) seen table
 
 abbrev pub Stepping : List ℕ → ℕ → ℕ → List ℤ → Stepped → Type 0
 Stepping file stop n table (stepped.Next s) = Gone file stop n s table
@@ -170,7 +80,7 @@ Stepping file stop n table (stepped.Refused x) = Fault (lineChecks file n) (said
 pub record Scanned (file : List ℕ) (seen : Seen) (table : List ℤ) : Type 0 where
   pub passes : Passes (linesChecks file (length (lines file)))
   pub room : 8 * seen .vertices ≤ length file + 1
-  pub holds : Holds file (length (lines file)) seen table
+  pub holds : SeenTo file (length (lines file)) seen table
 
 abbrev pub Scans : List ℕ → List ℤ → Stepped → Type 0
 Scans file table (stepped.Next s) = Scanned file s table
@@ -193,7 +103,6 @@ pub record Drafted (line : List ℕ) (k : ℕ) (table numbers : List ℤ) : Type
   pub indices : List ℤ
   pub says : lineOf line ≡ face indices
   pub named : allNamed k indices ≡ true
-  pub few : k < 65536
   pub fits : 2 * k ≤ length table
   pub size : length numbers ≡ 128
 

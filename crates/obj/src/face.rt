@@ -1,9 +1,8 @@
 // The corners of the face, from its line and the table.
 use crate::Outline;
-use crate::decimal::BEYOND;
-use crate::decimal::OFF;
-use crate::index::corner;
-use crate::text::word;
+use line::BEYOND;
+use line::OFF;
+use line::next_corner;
 use refusal::Checked;
 use refusal::Refusal;
 ghost use mathlib.Core.Path.{_≡_};
@@ -45,26 +44,27 @@ fn keep(x: i32, y: i32, i: usize, numbers: &mut [i32])
 }
 
 // Every corner is looked at, however many there are.
-pub(crate) fn gather(line: &[u8], above: usize, table: &[i32], numbers: &mut [i32]) -> Outline
+pub(crate) fn gather(line: &[u8], above: u16, table: &[i32], numbers: &mut [i32]) -> Outline
     requires { ⌜ Drafted (now line) above (now table) (now numbers) ⌝ }
     ensures { λ r. ⌜ Gather (now (line .entry)) above (now (table .entry)) (now (numbers .exit)) r ⌝ }
 {
-    let face = word(line, 0);
-    let first = word(line, face.to);
+    let face = next_corner(line, 0, above);
+    let first = next_corner(line, face.to, above);
     let mut from = first.from;
     let mut to = first.to;
+    let mut v = first.vertex;
     let mut i = 0;
     while from < line.len() {
-        let v = corner(&line[from..to], above);
         let x = table[2 * v];
         let y = table[2 * v + 1];
         if let Checked::Refused(r) = fit_both(x, y, i) {
             return Outline::Refused(r);
         }
         keep(x, y, i, numbers);
-        let next = word(line, to);
+        let next = next_corner(line, to, above);
         from = next.from;
         to = next.to;
+        v = next.vertex;
         i += 1;
     }
     Outline::Corners(i)

@@ -1,8 +1,8 @@
 // One pass over the lines: the vertices into a table, and where the face stands.
-use crate::line::Said;
-use crate::line::read_line;
+use crate::text::feed;
 use crate::text::line_end;
-use crate::text::until;
+use line::Said;
+use line::read_line;
 use refusal::Refusal;
 ghost use mathlib.Core.Path.{_≡_};
 ghost use Prim.Native.Nat.{_≤_};
@@ -30,7 +30,7 @@ fn step(file: &[u8], at: usize, stop: usize, line: usize, seen: Seen, table: &mu
     ensures { λ r. ⌜ length (now (table .exit)) ≡ length (now (table .entry)) ⌝ }
 {
     let n = seen.vertices;
-    let said = read_line(&file[at..stop], n);
+    let said = read_line(&file[at..stop], n as u16);
     match said {
         Said::Passed => Stepped::Next(seen),
         Said::Other => Stepped::Refused(Refusal::Line(line + 1)),
@@ -78,7 +78,7 @@ pub(crate) fn scan(file: &[u8], table: &mut [i32]) -> Stepped
     let mut at = 0;
     let mut line = 0;
     while at <= file.len() {
-        let end = until(file, at, 10, 10);
+        let end = feed(file, at);
         let stop = line_end(file, at, end);
         match step(file, at, stop, line, seen, table) {
             Stepped::Refused(x) => return Stepped::Refused(x),

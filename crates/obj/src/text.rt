@@ -1,62 +1,24 @@
-// Lines and words: where the parts of a text begin and end.
+// Lines: where they end.
 ghost use mathlib.Core.Path.{_≡_};
-ghost use mathlib.Core.Bool.{not};
 ghost use Prim.Native.Nat.{_≤_};
 ghost use lib.ListN.{length};
-ghost use Rattle.obj.specs.Text.{blank};
-ghost use Rattle.obj.specs.Line.{same};
-ghost use Rattle.obj.specs.Steps.{part, Until, either, Word, lineFrom};
+ghost use Rattle.line.specs.Text.{feed};
+ghost use Rattle.line.specs.Calls.{part, Until};
+ghost use Rattle.obj.specs.Steps.{lineFrom};
 
-// The first place from here on with one of two bytes, or the end.
-pub(crate) fn until(s: &[u8], from: usize, a: u8, b: u8) -> usize
-    requires { ⌜ from ≤ length (now s) ⌝ }
-    ensures { λ r. ⌜ Until (either a b) (now (s .entry)) from r ⌝ }
-{
-    let mut i = from;
-    while i < s.len() {
-        if s[i] == a {
-            return i;
-        }
-        if s[i] == b {
-            return i;
-        }
-        i += 1;
-    }
-    i
-}
-
-// The first place from here on that is not blank, or the end.
-fn past_blanks(line: &[u8], at: usize) -> usize
-    requires { ⌜ at ≤ length (now line) ⌝ }
-    ensures { λ r. ⌜ Until (λ b. not (blank b)) (now (line .entry)) at r ⌝ }
+// The next feed from here on, or the end.
+pub(crate) fn feed(file: &[u8], at: usize) -> usize
+    requires { ⌜ at ≤ length (now file) ⌝ }
+    ensures { λ r. ⌜ Until feed (now (file .entry)) at r ⌝ }
 {
     let mut i = at;
-    while i < line.len() {
-        let b = line[i];
-        if b != 32 {
-            if b != 9 {
-                return i;
-            }
+    while i < file.len() {
+        if file[i] == 10 {
+            return i;
         }
         i += 1;
     }
     i
-}
-
-// A word of a line: from here, up to there.
-pub(crate) struct Span {
-    pub(crate) from: usize,
-    pub(crate) to: usize,
-}
-
-// The next word from here on; it begins at the end where there is none.
-pub(crate) fn word(line: &[u8], at: usize) -> Span
-    requires { ⌜ at ≤ length (now line) ⌝ }
-    ensures { λ r. ⌜ Word (now (line .entry)) at r ⌝ }
-{
-    let from = past_blanks(line, at);
-    let to = until(line, from, 32, 9);
-    Span { from, to }
 }
 
 // Where a line ends that a feed ends at `end`, or the file: a carriage return before the feed is ignored.
@@ -71,21 +33,4 @@ pub(crate) fn line_end(file: &[u8], at: usize, end: usize) -> usize
         return end;
     }
     if file[end - 1] == 13 { end - 1 } else { end }
-}
-
-// Whether a word is this one.
-pub(crate) fn spelled(w: &[u8], word: &[u8]) -> bool
-    ensures { λ r. ⌜ r ≡ same (now (w .entry)) (now (word .entry)) ⌝ }
-{
-    if w.len() != word.len() {
-        return false;
-    }
-    let mut i = 0;
-    while i < w.len() {
-        if w[i] != word[i] {
-            return false;
-        }
-        i += 1;
-    }
-    true
 }

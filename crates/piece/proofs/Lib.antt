@@ -2,6 +2,6 @@ pub mod Steps
 pub mod Moving
 pub mod Touch
 pub mod Tells
-pub mod Finds
+pub mod Known
 pub mod Scan
 pub mod Unique

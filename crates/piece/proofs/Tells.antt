@@ -1,19 +1,20 @@
 -- At most one verdict is told, and its code answers as the rules read a code. Assumes nothing.
 use mathlib.Core.Path.{_≡_, refl}
 use mathlib.Core.Logic.{_⊎_, inl, inr}
+use mathlib.Core.List.{List}
 use Prim.Native.Nat.{ℕ, _≤_}
 use native.Mathlib.Omega.{arith}
 use Rattle.rules.specs.Reach.{Run, Piece}
-use Rattle.rules.specs.Refusal.{Passes, Fault}
+use Rattle.rules.specs.Refusal.{Check, Passes, Fault}
 use Rattle.rules.specs.Good.{runChecks, pieceChecks}
 use Rattle.rules.specs.Verdict as rules
 use Rattle.rules.specs.Verdict.{Answer, clear, blocked, verdictChecks, NONE, answer}
-use Rattle.rules.proofs.Checks.{passes-left}
+use Rattle.rules.proofs.Checks.{AllSharp, passes-left}
 use Rattle.rules.proofs.Good.{sharp-verdict}
 use Rattle.rules.proofs.Reach.{run-known}
 use Rattle.rules.proofs.Verdict.{one-verdict, mark-small, mark-answers}
 use Rattle.refusal.specs.declared.Refusal.{Refusal}
-use Rattle.refusal.specs.Said.{said}
+use Rattle.refusal.specs.Said.{said, Told}
 use Rattle.refusal.proofs.Unique.{told-one}
 use Rattle.piece.specs.declared.motion.Verdict.{Verdict}
 use Rattle.piece.specs.declared.motion.Verdict.the-variants.{Clear, Mark, Refused}
@@ -33,8 +34,13 @@ same Clear = refl
 same (Mark m) = refl
 same (Refused x) = refl
 
+-- one verdict is told of what checks pass, where P says one answer
+pub verdict-one : (cs : List Check) → AllSharp cs → (P : Answer → Type 0) → ((a b : Answer) → P a → P b → a ≡ b)
+    → (v w : Verdict) → Told cs P (answerOf v) → Told cs P (answerOf w) → v ≡ w
+verdict-one = told-one answerOf case same
+
 pub one-told : (r : Run) (k : Piece) (v w : Verdict) → Tells r k v → Tells r k w → v ≡ w
-one-told r k = told-one answerOf case same (verdictChecks r k) (sharp-verdict r k) (rules.Verdict r k) (one-verdict r k)
+one-told r k = verdict-one (verdictChecks r k) (sharp-verdict r k) (rules.Verdict r k) (one-verdict r k)
 
 -- ---- codes
 -- a code that is told of a good run and a good piece

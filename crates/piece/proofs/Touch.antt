@@ -16,7 +16,7 @@ use Rattle.decide.specs.Side.{sideOf}
 use Rattle.decide.specs.Span.{Span, ticks, some, first}
 use Rattle.rules.specs.Verdict.{NONE}
 use Rattle.decide.proofs.Place.{least-of, most-of}
-use Rattle.decide.specs.Touch.{least, most, swing, across, sameSide, onLine, within, onEdge, touch, touches, bandSpan, startPoint, over, pointOf, motion, place, contact, meets}
+use Rattle.decide.specs.Touch.{least, most, swing, across, sameSide, onLine, within, onEdge, touch, touches, bandSpan, startPoint, over, pointOf, motion, place, contact, firstMark}
 use Rattle.piece.specs.Moving.{Tame, Small, Bounds, Slope}
 use Rattle.piece.specs.Touch.{Close, Slow, Ready, Flat, Standing, Level, AlongSteps}
 use Rattle.footprint.specs.Steps.{CrossSteps, SideSteps}
@@ -187,17 +187,17 @@ module _ (d p n w : ℤ) (h : natAbs d ≤ 510) (i : natAbs p ≤ 16384) (j : na
 
 -- ---- the first mark within a span, by its tests
 module _ (r : Ring) (p w : Pt) (s : Span) where
-  pub meets-none : some s ≡ false → NONE ≡ meets r p w s
-  unfolding meets
-  meets-none e = rw e
+  pub first-mark-none : some s ≡ false → NONE ≡ firstMark r p w s
+  unfolding firstMark
+  first-mark-none e = rw e
 
-  pub meets-here : some s ≡ true → contact (place (over (s .lowD) r) (startPoint p w s)) ≡ true → first s ≡ meets r p w s
-  unfolding meets
-  meets-here e f = rw (e, f)
+  pub first-mark-here : some s ≡ true → contact (place (over (s .lowD) r) (startPoint p w s)) ≡ true → first s ≡ firstMark r p w s
+  unfolding firstMark
+  first-mark-here e f = rw (e, f)
 
-  pub meets-later : some s ≡ true → contact (place (over (s .lowD) r) (startPoint p w s)) ≡ false → touches r p w s (r .size) ≡ meets r p w s
-  unfolding meets
-  meets-later e f = rw (e, f)
+  pub first-mark-later : some s ≡ true → contact (place (over (s .lowD) r) (startPoint p w s)) ≡ false → touches r p w s (r .size) ≡ firstMark r p w s
+  unfolding firstMark
+  first-mark-later e f = rw (e, f)
 
 -- ---- numbers that are taken
 speed-abs : (z : ℤ) → Speed z → natAbs z ≤ 255

@@ -4,30 +4,18 @@ use mathlib.Core.Logic.{_⊎_, inl, inr}
 use mathlib.Core.List.{List}
 use lib.IntN.{ℤ}
 use Rattle.rules.specs.Ring.{Pt, ring}
-use Rattle.rules.specs.Good.{runChecks, pieceChecks}
 use Rattle.rules.specs.Place.{Where, on, inside, outside, Place, placeChecks}
-use Rattle.rules.proofs.Good.{sharp-run, sharp-piece, sharp-place}
+use Rattle.rules.proofs.Good.{sharp-place}
 use Rattle.decide.proofs.Parity.{one-place}
-use Rattle.refusal.specs.Said.{Finds}
 use Rattle.refusal.specs.declared.Refusal.{Refusal}
-use Rattle.refusal.specs.declared.Checked.{Checked}
-use Rattle.refusal.proofs.Unique.{finds-one, told-one}
+use Rattle.refusal.proofs.Unique.{told-one}
 use Rattle.footprint.proofs.Unique.{equal-one}
-use Rattle.piece.specs.declared.Run.{Run}
-use Rattle.piece.specs.declared.Band.{Band}
 use Rattle.piece.specs.declared.Placed.{Placed}
 use Rattle.piece.specs.declared.Placed.the-variants.{On, Inside, Outside, Refused}
 use Rattle.piece.specs.declared.motion.Verdict.{Verdict}
 use Rattle.piece.specs.declared.motion.Coded.{Coded}
-use Rattle.piece.specs.Numbers.{runOf, pieceOf}
 use Rattle.piece.specs.Place.{placeOf, Lies}
 use Rattle.piece.specs.Tells.{codedOf}
-
-pub check-run-one : (run : Run) (r s : Checked) → Finds (runChecks (runOf run)) r → Finds (runChecks (runOf run)) s → r ≡ s
-check-run-one run = finds-one (runChecks (runOf run)) (sharp-run (runOf run))
-
-pub check-piece-one : (band : Band) (l : List ℤ) (r s : Checked) → Finds (pieceChecks (pieceOf band l)) r → Finds (pieceChecks (pieceOf band l)) s → r ≡ s
-check-piece-one band l = finds-one (pieceChecks (pieceOf band l)) (sharp-piece (pieceOf band l))
 
 -- a place or a refusal as the enum has it
 case : Where ⊎ Refusal → Placed

@@ -1,4 +1,3 @@
-pub mod Numbers
 pub mod Moving
 pub mod Touch
 pub mod Tells

@@ -7,14 +7,12 @@ use Rattle.rules.specs.Ring.{Pt, ring}
 use Rattle.rules.specs.Place.{Where, on, inside, outside, Place, placeChecks}
 use Rattle.refusal.specs.declared.Refusal.{Refusal}
 use Rattle.refusal.specs.Said.{Told}
+use Rattle.good.specs.Numbers.{pt}
 use Rattle.piece.specs.declared.Placed.{Placed}
 use Rattle.piece.specs.declared.Placed.the-variants as placed
 use Rattle.piece.specs.declared.spot.Point.{Point}
 use Rattle.piece.specs.declared.spot.Spot.{Spot}
 use Rattle.piece.specs.declared.spot.Spot.the-variants as spot
-
-abbrev pub pt : ℤ → ℤ → Pt
-pt x y = record { x = x; y = y }
 
 abbrev pub ptOf : Point → Pt
 ptOf p = pt (p .x) (p .y)

@@ -9,7 +9,7 @@ use Rattle.rules.specs.Ring.{Pt, ring}
 use Rattle.decide.specs.Span.{Span}
 use Rattle.piece.specs.declared.motion.Motion.{Motion}
 use Rattle.piece.specs.declared.motion.Edge.{Edge}
-use Rattle.footprint.specs.Shape.{Holds, Corner}
+use Rattle.footprint.specs.Shape.{HoldsRing, Corner}
 use Rattle.piece.specs.Moving.{Small}
 
 abbrev pub startOf : Motion → Pt
@@ -52,7 +52,7 @@ pub record Flat (p w : ℤ) (s : Span) (a b : ℤ) : Type 0 where
 
 -- what a footprint that stands and a motion must be
 pub record Standing (l : List ℤ) (p w : Pt) (s : Span) : Type 0 where
-  pub held : Holds l (ring l .size)
+  pub held : HoldsRing l (ring l .size)
   pub corners : (j : ℕ) → j < ring l .size → Corner l j
   pub start : Close p
   pub speed : Slow w

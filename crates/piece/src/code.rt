@@ -1,4 +1,4 @@
-// A verdict as one number.
+// A verdict as one number. `Coded` stands in motion.rt: one module may not have names that differ in case alone.
 use crate::Coded;
 use crate::NONE;
 use crate::Verdict;

@@ -1,8 +1,6 @@
 // When a point that runs meets a footprint that stands.
 // Definitions: the crate `decide`, Touch; specs/Touch.antt says which point, motion and edge plain numbers are.
-use crate::Band;
 use crate::NONE;
-use crate::Run;
 use crate::number::at;
 use crate::number::cross;
 use crate::number::side;
@@ -17,6 +15,8 @@ use footprint::least;
 use footprint::most;
 use footprint::same_side;
 use footprint::wide;
+use good::Run;
+use good::Slab;
 use refusal::Refusal;
 ghost use mathlib.Core.Path.{_≡_};
 ghost use mathlib.Core.List.{[]};
@@ -25,8 +25,8 @@ ghost use lib.IntN.{_+ℤ_, _-ℤ_, _*ℤ_};
 ghost use Rattle.rules.specs.Ring.{ring};
 ghost use Rattle.rules.specs.Good.{RunKnown, PieceKnown};
 ghost use Rattle.rules.specs.Verdict.{NONE};
-ghost use Rattle.decide.specs.Touch.{swing, across, onLine, within, onEdge, touch, touches, pointOf, motion, bandSpan, startPoint, over, place, contact, meets, code};
-ghost use Rattle.piece.specs.Numbers.{runOf, pieceOf};
+ghost use Rattle.decide.specs.Touch.{swing, across, onLine, within, onEdge, touch, touches, pointOf, motion, bandSpan, startPoint, over, place, contact, firstMark, code};
+ghost use Rattle.good.specs.Numbers.{runOf, pieceOf};
 ghost use Rattle.piece.specs.Place.{whereOf};
 ghost use Rattle.piece.specs.Moving.{spanOf, Tame};
 ghost use Rattle.footprint.specs.Steps.{CrossSteps};
@@ -156,31 +156,31 @@ fn gap(a: i32, b: i32) -> i64
 }
 
 // The point of a run, and its velocity against a piece's.
-fn motion_of(run: Run, band: Band) -> Motion
-    ensures { λ r. ⌜ (startOf r ≡ pointOf (runOf run)) × (speedOf r ≡ motion (runOf run) (pieceOf band [])) ⌝ }
+fn motion_of(run: Run, slab: Slab) -> Motion
+    ensures { λ r. ⌜ (startOf r ≡ pointOf (runOf run)) × (speedOf r ≡ motion (runOf run) (pieceOf slab [])) ⌝ }
 {
     Motion {
         x: wide(run.x),
         y: wide(run.y),
-        u: gap(run.vx, band.vx),
-        v: gap(run.vy, band.vy),
+        u: gap(run.vx, slab.vx),
+        v: gap(run.vy, slab.vy),
     }
 }
 
 // The moments of a run within a piece's band.
-fn band_span(run: Run, band: Band) -> Span
-    requires { ⌜ Level (runOf run) (pieceOf band []) ⌝ }
-    ensures { λ r. ⌜ spanOf r ≡ bandSpan (runOf run) (pieceOf band []) ⌝ }
+fn band_span(run: Run, slab: Slab) -> Span
+    requires { ⌜ Level (runOf run) (pieceOf slab []) ⌝ }
+    ensures { λ r. ⌜ spanOf r ≡ bandSpan (runOf run) (pieceOf slab []) ⌝ }
 {
-    let w = gap(run.vz, band.vz);
+    let w = gap(run.vz, slab.vz);
     let s = Span {
         low_n: 0,
         low_d: 1,
         high_n: run.ticks as i64,
         high_d: 1,
     };
-    let t = clip(s, gap(run.z, band.bottom), w);
-    clip(t, gap(band.top, run.z), -w)
+    let t = clip(s, gap(run.z, slab.bottom), w);
+    clip(t, gap(slab.top, run.z), -w)
 }
 
 // A coordinate at the moment n/d, over d.
@@ -202,7 +202,7 @@ fn begins(l: &[i32], m: Motion, s: Span) -> Spot
 }
 
 // On or inside is a contact.
-fn meeting(spot: Spot) -> bool
+fn is_contact(spot: Spot) -> bool
     ensures { λ r. ⌜ r ≡ contact (whereOf spot) ⌝ }
 {
     match spot {
@@ -213,14 +213,14 @@ fn meeting(spot: Spot) -> bool
 }
 
 // The first mark of a point that runs against a standing footprint within a span.
-fn meets(l: &[i32], m: Motion, s: Span) -> u32
+fn first_mark(l: &[i32], m: Motion, s: Span) -> u32
     requires { ⌜ Standing (now l) (startOf m) (speedOf m) (spanOf s) × Tame 32768 510 (spanOf s) ⌝ }
-    ensures { λ r. ⌜ r ≡ meets (ring (now (l .entry))) (startOf m) (speedOf m) (spanOf s) ⌝ }
+    ensures { λ r. ⌜ r ≡ firstMark (ring (now (l .entry))) (startOf m) (speedOf m) (spanOf s) ⌝ }
 {
     if !some(s) {
         return NONE;
     }
-    if meeting(begins(l, m, s)) {
+    if is_contact(begins(l, m, s)) {
         first(s)
     } else {
         touches(l, m, s)
@@ -228,9 +228,9 @@ fn meets(l: &[i32], m: Motion, s: Span) -> u32
 }
 
 // A verdict, coded: the mark, or NONE.
-pub(crate) fn code(run: Run, band: Band, l: &[i32]) -> u32
-    requires { ⌜ RunKnown (runOf run) × PieceKnown (pieceOf band (now l)) ⌝ }
-    ensures { λ r. ⌜ r ≡ code (runOf run) (pieceOf band (now (l .entry))) ⌝ }
+pub(crate) fn code(run: Run, slab: Slab, l: &[i32]) -> u32
+    requires { ⌜ RunKnown (runOf run) × PieceKnown (pieceOf slab (now l)) ⌝ }
+    ensures { λ r. ⌜ r ≡ code (runOf run) (pieceOf slab (now (l .entry))) ⌝ }
 {
-    meets(l, motion_of(run, band), band_span(run, band))
+    first_mark(l, motion_of(run, slab), band_span(run, slab))
 }

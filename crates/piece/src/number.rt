@@ -4,16 +4,8 @@ ghost use mathlib.Core.Path.{_≡_};
 ghost use Prim.Native.Nat.{_<_};
 ghost use lib.IntN.{pos, _-ℤ_, _*ℤ_};
 ghost use lib.ListN.{length, getD};
-ghost use Rattle.rules.specs.Reach.{Speed};
 ghost use Rattle.decide.specs.Side.{side};
-ghost use Rattle.whole.specs.Decide.{Decides};
 ghost use Rattle.footprint.specs.Steps.{SideSteps, CrossSteps};
-
-pub(crate) fn speeds(v: i32) -> bool
-    ensures { λ r. ⌜ Decides (Speed v) r ⌝ }
-{
-    -255 <= v && v <= 255
-}
 
 // A number of a list.
 pub(crate) fn at(l: &[i32], k: usize) -> i64

@@ -1,15 +1,11 @@
 // Where a point lies against a footprint.
 use crate::number::at;
 use crate::number::side;
-use crate::reach::point_fault;
 use footprint::around;
-use footprint::check_footprint;
 use footprint::least;
 use footprint::less;
 use footprint::most;
 use footprint::ranged;
-use refusal::Checked;
-use refusal::Refusal;
 ghost use mathlib.Core.Path.{_≡_};
 ghost use Prim.Native.Nat.{ℕ, _≤_, _<_};
 ghost use lib.IntN.{natAbs, _*ℤ_};
@@ -18,12 +14,12 @@ ghost use mir.Val.{SFits};
 ghost use Rattle.rules.specs.Ring.{ring};
 ghost use Rattle.rules.specs.Refusal.{Passes};
 ghost use Rattle.rules.specs.Place.{Place, placeChecks};
-ghost use Rattle.refusal.specs.Said.{Finds};
 ghost use Rattle.decide.specs.Crossing.{xor, crosses};
 ghost use Rattle.decide.specs.Touch.{isOn, place, over};
 ghost use Rattle.footprint.specs.Steps.{SideSteps};
-ghost use Rattle.footprint.specs.Shape.{Holds, Corner};
-ghost use Rattle.piece.specs.Place.{pt, ptOf, Near, whereOf};
+ghost use Rattle.footprint.specs.Shape.{HoldsRing, Corner};
+ghost use Rattle.good.specs.Numbers.{pt};
+ghost use Rattle.piece.specs.Place.{ptOf, Near, whereOf};
 
 pub(crate) enum Spot {
     On,
@@ -93,7 +89,7 @@ fn corner_at(l: &[i32], i: usize, d: i64) -> Point
 
 // The place of the point (px, py) over d, in one pass over the edges. A corner is carried from one edge to the next.
 pub(crate) fn place_at(l: &[i32], n: usize, px: i64, py: i64, d: i64) -> Spot
-    requires { ⌜ Near d px py × (Holds (now l) n × ((j : ℕ) → j < n → Corner (now l) j)) ⌝ }
+    requires { ⌜ Near d px py × (HoldsRing (now l) n × ((j : ℕ) → j < n → Corner (now l) j)) ⌝ }
     ensures { λ r. ⌜ whereOf r ≡ place (over d (ring (now (l .entry)))) (pt px py) ⌝ }
 {
     let mut odd = false;
@@ -109,17 +105,6 @@ pub(crate) fn place_at(l: &[i32], n: usize, px: i64, py: i64, d: i64) -> Spot
         i += 1;
     }
     if odd { Spot::Inside } else { Spot::Outside }
-}
-
-// The checks before a place is answered: the point's numbers, then the footprint.
-pub(crate) fn check_place(x: i32, y: i32, l: &[i32]) -> Checked
-    ensures { λ r. ⌜ Finds (placeChecks (pt x y) (now (l .entry))) r ⌝ }
-{
-    let k = point_fault(x, y);
-    if k < 2 {
-        return Checked::Refused(Refusal::Reach(2 + 2 * k));
-    }
-    check_footprint(l)
 }
 
 // A point of the grid against a good footprint.

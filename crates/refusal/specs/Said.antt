@@ -3,30 +3,39 @@ use mathlib.Core.Path.{_≡_}
 use mathlib.Core.Logic.{_⊎_, inl, inr}
 use mathlib.Core.List.{List}
 use Rattle.rules.specs.Refusal as rules
-use Rattle.rules.specs.Refusal.{refuse, Check as Test, Passes, Fault}
+use Rattle.rules.specs.Refusal.{refuse, inBlock, Check as Test, Passes, Fault}
+use Prim.Native.Nat.{ℕ}
 use Rattle.refusal.specs.declared.Refusal.{Refusal}
 use Rattle.refusal.specs.declared.Refusal.the-variants.{Length, Check, Kind, Reach, Corners, Same, Fold, Meet, Clockwise, Short, NotNumber, Beyond, OffGrid, Line, Index, Face}
 use Rattle.refusal.specs.declared.Row.{Row}
 use Rattle.refusal.specs.declared.Checked.{Checked}
 use Rattle.refusal.specs.declared.Checked.the-variants.{Good, Refused}
 
+-- the row of the table
+abbrev pub row : Refusal → rules.Refusal
+row Length = refuse 1 0 0
+row Check = refuse 2 0 0
+row (Kind a) = refuse 3 a 0
+row (Reach a) = refuse 4 a 0
+row Corners = refuse 5 0 0
+row (Same a) = refuse 6 a 0
+row (Fold a) = refuse 7 a 0
+row (Meet a b) = refuse 8 a b
+row Clockwise = refuse 9 0 0
+row Short = refuse 10 0 0
+row (NotNumber a b) = refuse 11 a b
+row (Beyond a b) = refuse 12 a b
+row (OffGrid a b) = refuse 13 a b
+row (Line a) = refuse 14 a 0
+row (Index a) = refuse 15 a 0
+row (Face a) = refuse 16 a 0
+
+-- what is said in block n of a room; outside a room the block is 0
+abbrev pub saidIn : Refusal → ℕ → rules.Refusal
+saidIn x n = inBlock n (row x)
+
 abbrev pub said : Refusal → rules.Refusal
-said Length = refuse 1 0 0
-said Check = refuse 2 0 0
-said (Kind a) = refuse 3 a 0
-said (Reach a) = refuse 4 a 0
-said Corners = refuse 5 0 0
-said (Same a) = refuse 6 a 0
-said (Fold a) = refuse 7 a 0
-said (Meet a b) = refuse 8 a b
-said Clockwise = refuse 9 0 0
-said Short = refuse 10 0 0
-said (NotNumber a b) = refuse 11 a b
-said (Beyond a b) = refuse 12 a b
-said (OffGrid a b) = refuse 13 a b
-said (Line a) = refuse 14 a 0
-said (Index a) = refuse 15 a 0
-said (Face a) = refuse 16 a 0
+said x = saidIn x 0
 
 -- r is the row of x
 abbrev pub RowOf : Refusal → Row → Type 0

@@ -11,38 +11,38 @@ use lib.Seq.{getD-set-same, getD-set-other}
 use Rattle.whole.specs.Front.{Front}
 use Rattle.rules.specs.Reach.{Run}
 use Rattle.rules.specs.Refusal.{refuse, Check, Passes, Fault, demand}
-use Rattle.rules.specs.Good.{runChecks}
-use Rattle.rules.specs.Verdict.{blocked}
-use Rattle.rules.proofs.Reach.{run-known}
+use Rattle.rules.specs.Good.{runChecks, pieceChecks}
+use Rattle.rules.specs.Verdict.{blocked, verdictChecks}
 use Rattle.rules.proofs.Checks.{passes-append, fault-left, fault-right}
-use Rattle.rules.proofs.Verdict.{mark-small, mark-answers}
 use Rattle.refusal.specs.declared.Refusal.{Refusal}
 use Rattle.refusal.specs.declared.Refusal.the-variants.{Short}
-use Rattle.refusal.specs.Said.{said}
+use Rattle.refusal.specs.Said.{said, saidIn}
 use Rattle.piece.specs.declared.motion.Verdict.{Verdict}
 use Rattle.piece.specs.declared.motion.Verdict.the-variants as verdict
 use Rattle.piece.specs.Tells.{codedOf}
-use Rattle.block.specs.Reading.{pieceBlockChecks}
-use Rattle.block.specs.Verdicts.{VerdictOn, verdictInChecks, VerdictInSays}
-use Rattle.block.proofs.Blocks.{nth-length}
-use Rattle.block.proofs.PieceLaws.{block-passes}
-use Rattle.block.proofs.VerdictLaws.{block-refused}
-use Rattle.block.specs.Layout.{blockAt}
-use Rattle.room.specs.Image.{count, saidIn, headChecks, Has, FirstRefused, piecesCheck, roomChecks}
+use Rattle.piece.proofs.Tells.{tells-code}
+use Rattle.piece_block.specs.Reading.{pieceBlockChecks}
+use Rattle.piece_block.specs.Verdicts.{VerdictOn, verdictInChecks, VerdictInSays}
+use Rattle.seal.proofs.Blocks.{nth-length}
+use Rattle.piece_block.proofs.PieceLaws.{block-passes}
+use Rattle.piece_block.proofs.VerdictLaws.{block-refused}
+use Rattle.seal.specs.Seal.{blockAt}
+use Rattle.room.specs.Image.{count, headChecks, Has, FirstRefused, piecesCheck, roomChecks}
 use Rattle.room.specs.declared.Counted.the-variants.{Refused}
 use Rattle.room.specs.Verdicts.{verdictsChecks, CodeOf, Filled, VerdictsSay}
 use Rattle.room.specs.Codes.{CodeFound, CodesTo, AllCoded}
-use Rattle.room.proofs.Images.{fault-zero, few-pieces, has-long}
+use Rattle.room.proofs.Images.{few-pieces, has-long}
 
 -- ---- the code of a piece
 module _ (r : Run) (image : List ℕ) (i : ℕ) where
   code-mark : (k : ℕ) → VerdictOn r (blockAt image (suc i)) (blocked k) → CodeOf r image i k
+  unfolding verdictChecks
   code-mark k v = record {
     run = v .run;
     piece = v .piece;
     same = v .same;
     good = v .good;
-    verdict = mark-answers r (v .piece) k (mark-small r (v .piece) k (run-known r (v .run) 6 (omega arith)) (v .verdict)) (v .verdict);
+    verdict = tells-code r (v .piece) (verdict.Mark k) (passes-append (runChecks r) (pieceChecks (v .piece)) (v .run) (v .good), v .verdict) .verdict;
   }
 
   -- the run is good and the block whole, so what the block says is refused
@@ -98,7 +98,7 @@ module _ (r : Run) (image : List ℕ) where
 
   pub run-refused : (list : List ℕ) (x : Refusal) → Fault (runChecks r) (said x) → VerdictsSay r image list list (Refused x 0)
   unfolding verdictsChecks
-  run-refused list x f = (fault-left (runChecks r) (roomChecks image ++ last list) (saidIn x 0) (fault-zero (runChecks r) x f), refl)
+  run-refused list x f = (fault-left (runChecks r) (roomChecks image ++ last list) (saidIn x 0) f, refl)
 
   module _ (good : Passes (runChecks r)) where
     pub room-refused : (list : List ℕ) (x : Refusal) (b : ℕ) → Fault (roomChecks image) (saidIn x b) → VerdictsSay r image list list (Refused x b)

@@ -10,37 +10,16 @@ use Rattle.rules.specs.Refusal.{refuse, Check, Passes, Fault, demand}
 use Rattle.rules.specs.Reach.{Pieces}
 use Rattle.rules.proofs.Checks.{passes-append, passes-left, passes-right, fault-left, fault-right}
 use Rattle.refusal.specs.declared.Refusal.{Refusal}
-use Rattle.refusal.specs.declared.Refusal.the-variants.{Length, Check as Seal, Kind, Reach, Corners, Same, Fold, Meet, Clockwise, Short, NotNumber, Beyond, OffGrid, Line, Index, Face}
-use Rattle.refusal.specs.Said.{said}
-use Rattle.block.specs.Layout.{byte, blockAt}
-use Rattle.block.specs.Reading.{headerChecks, pieceBlockChecks, HeaderSays}
+use Rattle.refusal.specs.declared.Refusal.the-variants.{Length}
+use Rattle.refusal.specs.Said.{said, saidIn}
+use Rattle.seal.specs.Seal.{byte, blockAt}
+use Rattle.block.specs.Reading.{headerChecks, HeaderSays}
+use Rattle.piece_block.specs.Reading.{pieceBlockChecks}
 use Rattle.block.specs.declared.HeaderRead.the-variants.{Count as Pieced, NoHeader}
-use Rattle.block.proofs.Blocks.{nth-byte, nth-part}
+use Rattle.seal.proofs.Blocks.{nth-byte, nth-part}
 use Rattle.block.proofs.Headers.{header-passes, header-one, header-is, header-count}
 use Rattle.room.specs.declared.Counted.the-variants.{Count, Refused}
-use Rattle.room.specs.Image.{count, Whole, saidIn, headChecks, piecesCheck, roomChecks, HeadSays, Has}
-
--- outside a room the block is 0
-pub said-zero : (x : Refusal) → saidIn x 0 ≡ said x
-said-zero Length = refl
-said-zero Seal = refl
-said-zero (Kind a) = refl
-said-zero (Reach a) = refl
-said-zero Corners = refl
-said-zero (Same a) = refl
-said-zero (Fold a) = refl
-said-zero (Meet a b) = refl
-said-zero Clockwise = refl
-said-zero Short = refl
-said-zero (NotNumber a b) = refl
-said-zero (Beyond a b) = refl
-said-zero (OffGrid a b) = refl
-said-zero (Line a) = refl
-said-zero (Index a) = refl
-said-zero (Face a) = refl
-
-pub fault-zero : (cs : List Check) (x : Refusal) → Fault cs (said x) → Fault cs (saidIn x 0)
-fault-zero cs x f = subst (λ (r : rules.Refusal). Fault cs r) (sym (said-zero x)) f
+use Rattle.room.specs.Image.{count, Whole, headChecks, piecesCheck, roomChecks, HeadSays, Has}
 
 -- ---- the head
 module _ (image : List ℕ) where
@@ -60,7 +39,7 @@ module _ (image : List ℕ) where
 
   pub no-header : Whole image → (x : Refusal) → HeaderSays b (NoHeader x) → HeadSays image (Refused x 0)
   unfolding headChecks
-  no-header w x f = inr (w, fault-left (headerChecks b) last (saidIn x 0) (fault-zero (headerChecks b) x f))
+  no-header w x f = inr (w, fault-left (headerChecks b) last (saidIn x 0) f)
 
   module _ (w : Whole image) (n : ℕ) (h : HeaderSays b (Pieced n)) where
     header : Passes (headerChecks b)

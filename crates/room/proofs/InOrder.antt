@@ -9,8 +9,9 @@ use Rattle.rules.specs.Reach as reach
 use Rattle.rules.specs.Ring.{ring}
 use Rattle.rules.specs.Refusal.{Passes}
 use Rattle.rules.specs.Good.{pieceChecks}
-use Rattle.block.specs.Layout.{blockAt, pieceBlock}
-use Rattle.block.specs.Reading.{nothing}
+use Rattle.seal.specs.Seal.{blockAt}
+use Rattle.piece_block.specs.Layout.{pieceBlock}
+use Rattle.piece_block.specs.Reading.{nothing}
 use Rattle.room.specs.declared.Found.{Found}
 use Rattle.room.specs.declared.Found.the-variants.{Piece, End}
 use Rattle.room.specs.declared.Step.{Step}
@@ -23,7 +24,7 @@ use Rattle.room.proofs.RoundTrip.{image-count, image-at, image-head, im
 abbrev stepWith : Found → reach.Piece → ℕ → Step
 stepWith f k next = record {
   found = f;
-  band = record { bottom = k .bottom; top = k .top; vx = k .speed .x; vy = k .speed .y; vz = k .speed .z };
+  slab = record { bottom = k .bottom; top = k .top; vx = k .speed .x; vy = k .speed .y; vz = k .speed .z };
   corners = k .corners ++ replicate (128 - length (k .corners)) (pos 0);
   count = ring (k .corners) .size;
   next = next;

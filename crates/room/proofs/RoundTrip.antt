@@ -9,10 +9,13 @@ use Rattle.rules.specs.Reach.{Piece}
 use Rattle.rules.specs.Refusal.{Passes}
 use Rattle.rules.specs.Good.{pieceChecks}
 use Rattle.rules.proofs.Checks.{passes-append, passes-left, passes-right}
-use Rattle.block.specs.Layout.{byte, blockAt, headerBlock, pieceBlock}
-use Rattle.block.specs.Reading.{blockChecks, pieceBytes, pieceBlockChecks, headerChecks, nothing, inside, PieceIn}
+use Rattle.seal.specs.Seal.{byte, blockAt, blockChecks}
+use Rattle.block.specs.Layout.{headerBlock}
+use Rattle.piece_block.specs.Layout.{pieceBlock}
+use Rattle.block.specs.Reading.{pieceBytes, headerChecks, inside}
+use Rattle.piece_block.specs.Reading.{pieceBlockChecks, nothing, PieceIn}
 use Rattle.block.proofs.Headers.{header-length, header-passes, header-one, header-is}
-use Rattle.block.proofs.PieceLaws.{piece-passes, block-long}
+use Rattle.piece_block.proofs.PieceLaws.{piece-passes, block-long}
 use Rattle.room.specs.Image.{count, headChecks, piecesCheck, roomChecks, AllGood, blocksOf, imageOf, Furnishes}
 use Rattle.room.proofs.Images.{first-five, head-header, head-few, head-long}
 

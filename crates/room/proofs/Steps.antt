@@ -6,13 +6,13 @@ use native.Mathlib.Numerals.{add-one}
 use Rattle.rules.specs.Refusal.{Passes, Fault}
 use Rattle.refusal.specs.declared.Refusal.{Refusal}
 use Rattle.refusal.specs.declared.Checked.the-variants.{Good, Refused as Bad}
-use Rattle.refusal.specs.Said.{said}
-use Rattle.block.specs.declared.PieceRead.{PieceRead}
-use Rattle.block.specs.Reading.{pieceBlockChecks, PieceGood, PieceFound, PieceSays}
+use Rattle.refusal.specs.Said.{said, saidIn}
+use Rattle.piece_block.specs.declared.PieceRead.{PieceRead}
+use Rattle.piece_block.specs.Reading.{pieceBlockChecks, PieceGood, PieceFound, PieceSays}
 use Rattle.room.specs.declared.Found.the-variants.{End, Refused}
 use Rattle.room.specs.declared.Step.{Step}
-use Rattle.block.specs.Layout.{blockAt}
-use Rattle.room.specs.Image.{count, saidIn, headChecks, Has}
+use Rattle.seal.specs.Seal.{blockAt}
+use Rattle.room.specs.Image.{count, headChecks, Has}
 use Rattle.room.specs.Step.{Gives, StepFault, head, block, StepFinds, StepSays}
 use Rattle.room.specs.Made.{NoPiece, stepOf}
 

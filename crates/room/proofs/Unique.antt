@@ -8,7 +8,7 @@ use denote.Ref.{RefT}
 use Rattle.whole.proofs.Front.{stays-one}
 use Rattle.rules.specs.Reach.{Run, Piece}
 use Rattle.rules.specs.Refusal as rules
-use Rattle.rules.specs.Refusal.{Check, Passes, Fault}
+use Rattle.rules.specs.Refusal.{Check, Passes, Fault, inBlock}
 use Rattle.rules.specs.Good.{runChecks}
 use Rattle.rules.specs.Verdict.{answer}
 use Rattle.rules.proofs.Checks.{only, Sharp, AllSharp, never-both, one-fault, sharp-demand, sharp-append}
@@ -16,21 +16,23 @@ use Rattle.rules.proofs.Good.{sharp-run}
 use Rattle.rules.proofs.Verdict.{answer-one}
 use Rattle.refusal.specs.declared.Refusal.{Refusal}
 use Rattle.refusal.proofs.Unique.{said-one}
-use Rattle.block.specs.Reading.{headerChecks, pieceBlockChecks, Holds}
-use Rattle.block.proofs.PieceLaws.{block-passes}
-use Rattle.block.proofs.Sharp.{sharp-header, sharp-piece-block}
-use Rattle.block.proofs.Unique.{holds-one, read-piece-one, verdict-on-one}
+use Rattle.block.specs.Reading.{headerChecks}
+use Rattle.piece_block.specs.Reading.{pieceBlockChecks, HoldsPiece}
+use Rattle.piece_block.proofs.PieceLaws.{block-passes}
+use Rattle.block.proofs.OneFault.{sharp-header}
+use Rattle.piece_block.proofs.OneFault.{sharp-piece-block}
+use Rattle.piece_block.proofs.Unique.{holds-one, read-piece-one, verdict-on-one}
 use Rattle.room.specs.declared.Counted.{Counted}
 use Rattle.room.specs.declared.Counted.the-variants.{Count, Refused as NoCount}
 use Rattle.room.specs.declared.Found.{Found}
 use Rattle.room.specs.declared.Found.the-variants.{Piece as Good, End, Refused}
 use Rattle.room.specs.declared.Reader.{Reader}
 use Rattle.room.specs.declared.Step.{Step}
-use Rattle.block.specs.Layout.{blockAt}
-use Rattle.room.specs.Image.{count, inBlock, saidIn, headChecks, FirstRefused, piecesCheck, roomChecks}
+use Rattle.seal.specs.Seal.{blockAt}
+use Rattle.room.specs.Image.{count, headChecks, FirstRefused, piecesCheck, roomChecks}
+use Rattle.refusal.specs.Said.{saidIn}
 use Rattle.room.specs.Step.{ReaderAt, pieceRead, Gives, Ends, StepFault, head, block, StepFinds, StepSays}
 use Rattle.room.specs.Verdicts.{verdictsChecks, CodeOf, Filled, VerdictsSay}
-use Rattle.room.proofs.Images.{said-zero}
 
 -- ---- the checks are sharp
 pub sharp-head : (image : List ℕ) → AllSharp (headChecks image)
@@ -69,13 +71,13 @@ block-one : (x y : Refusal) (a b : ℕ) → saidIn x a ≡ saidIn y b → a ≡ 
 block-one x y a b e = ap (λ (r : rules.Refusal). r .block) e
 
 refusal-one : (x y : Refusal) (a b : ℕ) → saidIn x a ≡ saidIn y b → x ≡ y
-refusal-one x y a b e = said-one x y (sym (said-zero x) ∙ ap (inBlock 0) e ∙ said-zero y)
+refusal-one x y a b e = said-one x y (ap (inBlock 0) e)
 
 -- ---- steps
 -- the same numbers, found and next
-same-step : (s t : Step) (k : Piece) → s .found ≡ t .found → s .next ≡ t .next → Holds (pieceRead s) k → Holds (pieceRead t) k → s ≡ t
+same-step : (s t : Step) (k : Piece) → s .found ≡ t .found → s .next ≡ t .next → HoldsPiece (pieceRead s) k → HoldsPiece (pieceRead t) k → s ≡ t
 same-step s t k d n h g =
-    let q = holds-one (pieceRead s) (pieceRead t) k refl h g in λ i. record { found = d i; band = q i .band; corners = q i .corners; count = q i .count; next = n i }
+    let q = holds-one (pieceRead s) (pieceRead t) k refl h g in λ i. record { found = d i; slab = q i .slab; corners = q i .corners; count = q i .count; next = n i }
 
 module _ (image : List ℕ) (place : ℕ) where
   -- the block of the place
@@ -105,7 +107,7 @@ module _ (image : List ℕ) (place : ℕ) where
   finds-one : (s t : Step) (f g : Found) → s .found ≡ f → t .found ≡ g → StepFinds image place s f → StepFinds image place t g → s ≡ t
   finds-one s t Good Good d e f g =
       let q = read-piece-one here (pieceRead s) (pieceRead t) (f .good) (g .good) in
-      λ i. record { found = (d ∙ sym e) i; band = q i .band; corners = q i .corners; count = q i .count; next = (f .next ∙ sym (g .next)) i }
+      λ i. record { found = (d ∙ sym e) i; slab = q i .slab; corners = q i .corners; count = q i .count; next = (f .next ∙ sym (g .next)) i }
   finds-one s t Good End d e f g = absurd (past (count image) (f .below) (g .past))
   finds-one s t Good (Refused y b) d e f g = absurd (gives-faultless s f (saidIn y b) (g .fault))
   finds-one s t End Good d e f g = absurd (past (count image) (g .below) (f .past))

@@ -5,15 +5,15 @@ use Prim.Native.Nat.{ℕ, suc, _<_}
 use lib.ListN.{getD}
 use Rattle.rules.specs.Reach.{Run}
 use Rattle.rules.specs.Refusal.{Passes, Fault}
-use Rattle.refusal.specs.Said.{said}
+use Rattle.refusal.specs.Said.{said, saidIn}
 use Rattle.piece.specs.declared.motion.Coded.{Coded}
 use Rattle.piece.specs.declared.motion.Coded.the-variants as coded
-use Rattle.block.specs.Reading.{pieceBlockChecks}
+use Rattle.piece_block.specs.Reading.{pieceBlockChecks}
 use Rattle.room.specs.declared.Counted.{Counted}
 use Rattle.room.specs.declared.Counted.the-variants.{Count, Refused}
 use Rattle.room.specs.declared.pass.Codes.{Codes}
-use Rattle.block.specs.Layout.{blockAt}
-use Rattle.room.specs.Image.{count, saidIn, roomChecks}
+use Rattle.seal.specs.Seal.{blockAt}
+use Rattle.room.specs.Image.{count, roomChecks}
 use Rattle.room.specs.Verdicts.{CodeOf}
 
 -- piece i

@@ -4,13 +4,16 @@ use mathlib.Core.List.{List, [], _∷_, _++_}
 use Prim.Native.Nat.{ℕ, suc, _*_, _<_}
 use lib.ListN.{length}
 use Rattle.rules.specs.Refusal as rules
-use Rattle.rules.specs.Refusal.{refuse, Check, Passes, Fault, demand}
+use Rattle.rules.specs.Refusal.{refuse, inBlock, Check, Passes, Fault, demand}
 use Rattle.rules.specs.Reach.{Pieces, Piece}
 use Rattle.rules.specs.Good.{pieceChecks}
 use Rattle.refusal.specs.declared.Refusal.{Refusal}
-use Rattle.refusal.specs.Said.{said}
-use Rattle.block.specs.Layout.{byte, Blocks, blockAt, headerBlock, pieceBlock}
-use Rattle.block.specs.Reading.{headerChecks, pieceBlockChecks}
+use Rattle.refusal.specs.Said.{saidIn}
+use Rattle.seal.specs.Seal.{blockSize, byte, Blocks, blockAt}
+use Rattle.block.specs.Layout.{headerBlock}
+use Rattle.piece_block.specs.Layout.{pieceBlock}
+use Rattle.block.specs.Reading.{headerChecks}
+use Rattle.piece_block.specs.Reading.{pieceBlockChecks}
 use Rattle.room.specs.declared.Counted.{Counted}
 use Rattle.room.specs.declared.Counted.the-variants.{Count, Refused}
 
@@ -20,21 +23,13 @@ count image = byte image 5
 
 -- a multiple of 512, from 512 to 65,024
 abbrev pub Whole : List ℕ → Type 0
-Whole image = Blocks 512 65024 image
-
--- a refusal of piece i is one of block i + 1
-abbrev pub inBlock : ℕ → rules.Refusal → rules.Refusal
-inBlock n r = record { number = r .number; block = n; a = r .a; b = r .b }
-
--- what each case of the enum says, with its block
-abbrev pub saidIn : Refusal → ℕ → rules.Refusal
-saidIn x n = inBlock n (said x)
+Whole image = Blocks blockSize 65024 image
 
 -- length, header, length against count
 unfoldable pub headChecks : List ℕ → List Check
 headChecks image =
     demand (Whole image) (refuse 1 0 0)
-    ∷ (headerChecks (blockAt image 0) ++ (demand (length image ≡ 512 * suc (count image)) (refuse 1 0 0) ∷ []))
+    ∷ (headerChecks (blockAt image 0) ++ (demand (length image ≡ blockSize * suc (count image)) (refuse 1 0 0) ∷ []))
 
 -- they pass, and so many pieces are said
 pub record HeadGood (image : List ℕ) (n : ℕ) : Type 0 where

@@ -5,16 +5,17 @@ use Prim.Native.Nat.{ℕ, suc, _≤_, _<_}
 use denote.Ref.{RefT}
 use Rattle.rules.specs.Reach as reach
 use Rattle.rules.specs.Refusal as rules
-use Rattle.rules.specs.Refusal.{Passes, Fault}
-use Rattle.block.specs.Reading.{pieceBlockChecks, Holds, PieceGood, nothing}
-use Rattle.block.specs.declared.PieceRead.{PieceRead}
+use Rattle.rules.specs.Refusal.{Passes, Fault, inBlock}
+use Rattle.piece_block.specs.Reading.{pieceBlockChecks, HoldsPiece, PieceGood, nothing}
+use Rattle.piece_block.specs.declared.PieceRead.{PieceRead}
 use Rattle.refusal.specs.declared.Checked.the-variants.{Good}
 use Rattle.room.specs.declared.Found.{Found}
 use Rattle.room.specs.declared.Found.the-variants.{Piece, End, Refused}
 use Rattle.room.specs.declared.Reader.{Reader}
 use Rattle.room.specs.declared.Step.{Step}
-use Rattle.block.specs.Layout.{blockAt}
-use Rattle.room.specs.Image.{count, inBlock, saidIn, headChecks}
+use Rattle.seal.specs.Seal.{blockAt}
+use Rattle.room.specs.Image.{count, headChecks}
+use Rattle.refusal.specs.Said.{saidIn}
 
 -- a reader keeps the lent image and its place in it
 pub record ReaderAt (image : RefT (List ℕ)) (place : ℕ) (r : Reader) : Type 0 where
@@ -23,7 +24,7 @@ pub record ReaderAt (image : RefT (List ℕ)) (place : ℕ) (r : Reader) : Type 
 
 -- the piece of a step, as a block's reading gives it
 abbrev pub pieceRead : Step → PieceRead
-pieceRead s = record { found = Good; band = s .band; corners = s .corners; count = s .count }
+pieceRead s = record { found = Good; slab = s .slab; corners = s .corners; count = s .count }
 
 -- the next good piece, and the place after it
 pub record Gives (image : List ℕ) (place : ℕ) (s : Step) : Type 0 where
@@ -36,7 +37,7 @@ pub record Gives (image : List ℕ) (place : ℕ) (s : Step) : Type 0 where
 pub record Ends (image : List ℕ) (place : ℕ) (s : Step) : Type 0 where
   pub head : Passes (headChecks image)
   pub past : count image ≤ place
-  pub empty : Holds (pieceRead s) nothing
+  pub empty : HoldsPiece (pieceRead s) nothing
   pub next : s .next ≡ place
 
 -- a fault of the length, the header or that block
@@ -47,7 +48,7 @@ pub data StepFault (image : List ℕ) (place : ℕ) (x : rules.Refusal) : Type 0
 -- the refusal, again and again
 pub record Stops (image : List ℕ) (place : ℕ) (x : rules.Refusal) (s : Step) : Type 0 where
   pub fault : StepFault image place x
-  pub empty : Holds (pieceRead s) nothing
+  pub empty : HoldsPiece (pieceRead s) nothing
   pub next : s .next ≡ place
 
 abbrev pub StepFinds : List ℕ → ℕ → Step → Found → Type 0
@@ -67,7 +68,7 @@ StepsFrom image place (s ∷ steps) = StepSays image place s × StepsFrom image 
 -- a step shows so much, and these numbers
 pub record Shows (f : Found) (k : reach.Piece) (s : Step) : Type 0 where
   pub found : s .found ≡ f
-  pub holds : Holds (pieceRead s) k
+  pub holds : HoldsPiece (pieceRead s) k
 
 -- the pieces in order, and then the end again and again
 abbrev pub InOrder : List reach.Piece → List Step → Type 0

@@ -8,11 +8,12 @@ use Rattle.rules.specs.Reach.{Run}
 use Rattle.rules.specs.Refusal.{refuse, Check, Passes, Fault, demand}
 use Rattle.rules.specs.Good.{runChecks}
 use Rattle.rules.specs.Verdict.{answer}
-use Rattle.block.specs.Layout.{blockAt}
-use Rattle.block.specs.Verdicts.{VerdictOn}
+use Rattle.seal.specs.Seal.{blockAt}
+use Rattle.piece_block.specs.Verdicts.{VerdictOn}
 use Rattle.room.specs.declared.Counted.{Counted}
 use Rattle.room.specs.declared.Counted.the-variants.{Count, Refused}
-use Rattle.room.specs.Image.{count, saidIn, roomChecks}
+use Rattle.room.specs.Image.{count, roomChecks}
+use Rattle.refusal.specs.Said.{saidIn}
 
 -- the run, the room, and at last the lent list
 unfoldable pub verdictsChecks : Run → List ℕ → List ℕ → List Check

@@ -5,8 +5,8 @@ use crate::Reader;
 use crate::Step;
 use crate::image::head;
 use crate::image::read_block;
-use block::PieceRead;
-use piece::Band;
+use good::Slab;
+use piece_block::PieceRead;
 use refusal::Checked;
 ghost use mathlib.Core.Path.{_≡_};
 ghost use Rattle.room.specs.Image.{Has};
@@ -17,7 +17,7 @@ ghost use Rattle.room.specs.Step.{ReaderAt, StepSays};
 fn no_piece(found: Found, next: usize) -> Step
     ensures { λ r. ⌜ NoPiece found next r ⌝ }
 {
-    let band = Band {
+    let slab = Slab {
         bottom: 0,
         top: 0,
         vx: 0,
@@ -26,7 +26,7 @@ fn no_piece(found: Found, next: usize) -> Step
     };
     Step {
         found,
-        band,
+        slab,
         corners: [0; 128],
         count: 0,
         next,
@@ -36,11 +36,11 @@ fn no_piece(found: Found, next: usize) -> Step
 fn with_piece(p: PieceRead, next: usize) -> Step
     ensures { λ r. ⌜ r ≡ stepOf p next ⌝ }
 {
-    let band = p.band;
+    let slab = p.slab;
     let corners = p.corners;
     Step {
         found: Found::Piece,
-        band,
+        slab,
         corners,
         count: p.count,
         next,

@@ -1,13 +1,14 @@
 // A room image: its head, and one of its piece blocks.
 use crate::Counted;
 use block::HeaderRead;
-use block::PieceRead;
 use block::read_header;
-use block::read_piece;
+use piece_block::PieceRead;
+use piece_block::read_piece;
 use refusal::Refusal;
+use seal::SIZE;
 ghost use Prim.Native.Nat.{suc};
-ghost use Rattle.block.specs.Reading.{PieceSays};
-ghost use Rattle.block.specs.Layout.{blockAt};
+ghost use Rattle.piece_block.specs.Reading.{PieceSays};
+ghost use Rattle.seal.specs.Seal.{blockAt};
 ghost use Rattle.room.specs.Image.{HeadSays, Has};
 
 // Length, header, length against count.
@@ -15,20 +16,20 @@ pub(crate) fn head(image: &[u8]) -> Counted
     ensures { λ r. ⌜ HeadSays (now (image .entry)) r ⌝ }
 {
     let size = image.len();
-    if size % 512 != 0 {
+    if size % SIZE != 0 {
         return Counted::Refused(Refusal::Length, 0);
     }
-    if size < 512 {
+    if size < SIZE {
         return Counted::Refused(Refusal::Length, 0);
     }
     if 65024 < size {
         return Counted::Refused(Refusal::Length, 0);
     }
-    match read_header(&image[..512]) {
+    match read_header(&image[..SIZE]) {
         HeaderRead::NoHeader(x) => Counted::Refused(x, 0),
         HeaderRead::Count(pieces) => {
             let count = pieces as usize;
-            if size == 512 * (count + 1) {
+            if size == SIZE * (count + 1) {
                 Counted::Count(count)
             } else {
                 Counted::Refused(Refusal::Length, 0)
@@ -42,7 +43,7 @@ pub(crate) fn read_block(image: &[u8], i: usize) -> PieceRead
     requires { ⌜ Has (now image) i ⌝ }
     ensures { λ r. ⌜ PieceSays (blockAt (now (image .entry)) (suc i)) r ⌝ }
 {
-    let from = 512 * (i + 1);
-    let to = from + 512;
+    let from = SIZE * (i + 1);
+    let to = from + SIZE;
     read_piece(&image[from..to])
 }

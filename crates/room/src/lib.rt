@@ -5,8 +5,8 @@ mod image;
 mod pass;
 
 pub use cursor::piece_at;
+use good::Slab;
 pub use pass::verdicts;
-use piece::Band;
 use refusal::Refusal;
 
 // What reading a room finds: the piece count, or a refusal and its block.
@@ -25,7 +25,7 @@ pub enum Found {
 // A step: what was found, the piece where one was and zeros elsewhere, and the place of the next step.
 pub struct Step {
     pub found: Found,
-    pub band: Band,
+    pub slab: Slab,
     pub corners: [i32; 128],
     pub count: usize,
     pub next: usize,

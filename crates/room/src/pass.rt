@@ -1,19 +1,20 @@
 // The verdicts of a room: one pass over its pieces into codes, and only then the lent list.
 use crate::Counted;
 use crate::image::head;
-use block::verdict_in;
+use good::Run;
+use good::check_run;
 use piece::Coded;
-use piece::Run;
-use piece::check_run;
 use piece::coded;
+use piece_block::verdict_in;
 use refusal::Checked;
 use refusal::Refusal;
+use seal::SIZE;
 ghost use Prim.Native.Nat.{_≤_};
 ghost use lib.ListN.{length};
 ghost use Rattle.whole.specs.Front.{Front};
 ghost use Rattle.rules.specs.Refusal.{Passes};
 ghost use Rattle.rules.specs.Good.{runChecks};
-ghost use Rattle.piece.specs.Numbers.{runOf};
+ghost use Rattle.good.specs.Numbers.{runOf};
 ghost use Rattle.room.specs.Codes.{CodeFound, CodesSay};
 ghost use Rattle.room.specs.Image.{HeadGood, Has};
 ghost use Rattle.room.specs.Verdicts.{VerdictsSay};
@@ -29,8 +30,8 @@ fn code_of(run: Run, image: &[u8], i: usize) -> Coded
     requires { ⌜ Passes (runChecks (runOf run)) × Has (now image) i ⌝ }
     ensures { λ r. ⌜ CodeFound (runOf run) (now (image .entry)) i r ⌝ }
 {
-    let from = 512 * (i + 1);
-    let to = from + 512;
+    let from = SIZE * (i + 1);
+    let to = from + SIZE;
     coded(verdict_in(run, &image[from..to]))
 }
 

@@ -70,6 +70,11 @@ pub fault-right : (cs ds : List Check) (r : Refusal) → Passes cs → Fault ds 
 fault-right [] ds r p f = f
 fault-right (c ∷ cs) ds r p f = inr (p .0, fault-right cs ds r (p .1) f)
 
+-- a fault of the second checks, told as one of others
+pub fault-then : (cs ds es : List Check) (x : Refusal) → (Fault ds x → Fault es x) → Fault (cs ++ ds) x → Fault (cs ++ es) x
+fault-then [] ds es x g f = g f
+fault-then (c ∷ cs) ds es x g f = ⊎-elim (λ h. inl h) (λ h. inr (h .0, fault-then cs ds es x g (h .1))) f
+
 pub passes-left : (cs ds : List Check) → Passes (cs ++ ds) → Passes cs
 passes-left [] ds p = tt
 passes-left (c ∷ cs) ds p = (p .0, passes-left cs ds (p .1))

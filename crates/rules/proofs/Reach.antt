@@ -12,8 +12,7 @@ use Rattle.whole.proofs.Flag.{le-true, le-false}
 use Rattle.whole.proofs.Decide.{decide-by}
 use Rattle.rules.specs.Reach.{Between, Ticks, Run, Piece}
 use Rattle.rules.specs.Refusal.{Passes}
-use Rattle.rules.specs.Good.{RunKnown, PieceKnown}
-use Rattle.rules.specs.Good.{runNumber, bandNumber, runChecks, pieceChecks, sizedCheck, bandCheck, shapeChecks}
+use Rattle.rules.specs.Good.{RunKnown, PieceKnown, runNumber, bandNumber, runChecks, pieceChecks, sizedCheck, bandCheck, shapeChecks}
 
 -- what is not known to fail, holds: these facts are decided
 pub le-stable : (a b : ℤ) → ((a ≤ℤ b → ⊥) → ⊥) → a ≤ℤ b

@@ -15,6 +15,10 @@ pub record Refusal : Type 0 where
 abbrev pub refuse : ℕ → ℕ → ℕ → Refusal
 refuse n a b = record { number = n; block = 0; a = a; b = b }
 
+-- the same in block n of a room: a refusal of piece i is one of block i + 1
+abbrev pub inBlock : ℕ → Refusal → Refusal
+inBlock n r = record { number = r .number; block = n; a = r .a; b = r .b }
+
 -- a check: when it passes, and which refusal it gives when not
 pub record Check : Type 1 where
   pub passes : Type 0

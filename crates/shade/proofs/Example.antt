@@ -4,7 +4,8 @@ use mathlib.Core.List.{List, [], _∷_, _++_}
 use Prim.Native.Nat.{ℕ}
 use Rattle.rules.specs.Verdict.{NONE}
 use Rattle.print.specs.Digits.{digitsIn}
-use Rattle.shade.specs.Text.{roomLine, pieceLine, pieceLines, page}
+use Rattle.notice.specs.Notice.{roomLine}
+use Rattle.shade.specs.Text.{pieceLine, pieceLines, page}
 
 -- pieces 2
 abbrev count-line : List ℕ

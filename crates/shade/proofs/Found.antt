@@ -7,11 +7,11 @@ use native.Mathlib.Omega.{arith}
 use lib.ListN.{length, take, drop, length-take, length-drop}
 use lib.Seq.{take-all}
 use Rattle.rules.specs.Reach.{Run}
-use Rattle.rules.specs.Refusal.{Refusal, Passes, Fault, demand, refuse}
+use Rattle.rules.specs.Refusal.{Refusal, Passes, Fault, demand, refuse, inBlock}
 use Rattle.rules.specs.Good.{runChecks}
 use Rattle.rules.proofs.Checks.{fault-past, fault-within, passes-left, passes-right}
 use Rattle.rules.proofs.Good.{sharp-run}
-use Rattle.room.specs.Image.{count, inBlock, roomChecks}
+use Rattle.room.specs.Image.{count, roomChecks}
 use Rattle.room.proofs.Images.{few-pieces}
 use Rattle.room.specs.Verdicts.{verdictsChecks, Filled}
 use Rattle.io.specs.Counts.{Counts}

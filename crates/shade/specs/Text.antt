@@ -8,14 +8,15 @@ use lib.ListN.{length, getD, take, drop}
 use Rattle.rules.specs.Reach.{Run}
 use Rattle.rules.specs.Refusal.{Refusal, refuse, Check, Fault, Passes, demand}
 use Rattle.rules.specs.Verdict.{NONE}
-use Rattle.block.specs.Layout.{Blocks}
+use Rattle.seal.specs.Seal.{blockSize, Blocks}
 use Rattle.block.specs.Reading.{runBlockChecks, RunGood}
 use Rattle.room.specs.Image.{count, roomChecks}
 use Rattle.room.specs.Verdicts.{CodeOf}
+use Rattle.notice.specs.Notice.{feed, runLine, roomLine}
 use Rattle.print.specs.Digits.{digits}
 use Rattle.print.specs.Put.{Puts}
 
--- "pieces ", " blocked ", " clear", "refused ", "run ", " block ", " at "
+-- "pieces ", " blocked ", " clear"
 abbrev pub pieces : List ℕ
 pieces = 112 ∷ 105 ∷ 101 ∷ 99 ∷ 101 ∷ 115 ∷ 32 ∷ []
 
@@ -24,30 +25,6 @@ blocked = 32 ∷ 98 ∷ 108 ∷ 111 ∷ 99 ∷ 107 ∷ 101 ∷ 100 ∷ 32 ∷ []
 
 abbrev pub clear : List ℕ
 clear = 32 ∷ 99 ∷ 108 ∷ 101 ∷ 97 ∷ 114 ∷ []
-
-abbrev pub refused : List ℕ
-refused = 114 ∷ 101 ∷ 102 ∷ 117 ∷ 115 ∷ 101 ∷ 100 ∷ 32 ∷ []
-
-abbrev pub run : List ℕ
-run = 114 ∷ 117 ∷ 110 ∷ 32 ∷ []
-
-abbrev pub block : List ℕ
-block = 32 ∷ 98 ∷ 108 ∷ 111 ∷ 99 ∷ 107 ∷ 32 ∷ []
-
-abbrev pub at : List ℕ
-at = 32 ∷ 97 ∷ 116 ∷ 32 ∷ []
-
--- a line feed ends each line
-abbrev pub feed : List ℕ
-feed = 10 ∷ []
-
--- "refused run N"
-unfoldable pub runLine : Refusal → List ℕ
-runLine r = refused ++ (run ++ (digits (r .number) ++ feed))
-
--- "refused N block B at a b"
-unfoldable pub roomLine : Refusal → List ℕ
-roomLine r = refused ++ (digits (r .number) ++ (block ++ (digits (r .block) ++ (at ++ (digits (r .a) ++ (32 ∷ (digits (r .b) ++ feed)))))))
 
 -- the answer of a code, and the mark where blocked
 abbrev pub answered : ℕ → List ℕ
@@ -76,10 +53,10 @@ lengthChecks input = demand (Whole input) (refuse 1 0 0) ∷ []
 
 -- a run block, then a room image
 abbrev pub runPart : List ℕ → List ℕ
-runPart input = take 512 input
+runPart input = take blockSize input
 
 abbrev pub roomPart : List ℕ → List ℕ
-roomPart input = drop 512 input
+roomPart input = drop blockSize input
 
 -- a good room: its piece count, and the verdict on each piece
 pub record Page (r : Run) (input out : List ℕ) : Type 0 where

@@ -1,17 +1,18 @@
 // The text that answers an input: a run block, then a room image.
 use crate::line::put_page;
-use crate::line::room_line;
-use crate::line::run_line;
 use block::RunRead;
 use block::read_run;
-use piece::Run;
+use good::Run;
+use notice::room_line;
+use notice::run_line;
 use refusal::Checked;
 use refusal::Refusal;
 use room::Counted;
 use room::verdicts;
+use seal::SIZE;
 ghost use Prim.Native.Nat.{_≤_};
 ghost use lib.ListN.{length};
-ghost use Rattle.piece.specs.Numbers.{runOf};
+ghost use Rattle.good.specs.Numbers.{runOf};
 ghost use Rattle.refusal.specs.Said.{Finds};
 ghost use Rattle.io.specs.Counts.{Counts};
 ghost use Rattle.block.specs.Reading.{RunGood};
@@ -21,7 +22,7 @@ fn check_length(input: &[u8]) -> Checked
     ensures { λ r. ⌜ Finds (lengthChecks (now (input .entry))) r ⌝ }
 {
     let n = input.len();
-    if n % 512 != 0 {
+    if n % SIZE != 0 {
         return Checked::Refused(Refusal::Length);
     }
     if n < 1024 {
@@ -39,7 +40,7 @@ fn answer_room(run: Run, input: &[u8], out: &mut [u8]) -> usize
     ensures { λ r. ⌜ Prints (now (input .entry)) (now (out .entry)) (now (out .exit)) r ⌝ }
 {
     let mut codes = [0u32; 126];
-    let counted = verdicts(run, &input[512..], &mut codes);
+    let counted = verdicts(run, &input[SIZE..], &mut codes);
     match counted {
         Counted::Refused(x, block) => room_line(out, x, block),
         Counted::Count(n) => put_page(out, &codes, n),
@@ -51,7 +52,7 @@ fn answer_blocks(input: &[u8], out: &mut [u8]) -> usize
     requires { ⌜ (6328 ≤ length (now out)) × Whole (now input) ⌝ }
     ensures { λ r. ⌜ Prints (now (input .entry)) (now (out .entry)) (now (out .exit)) r ⌝ }
 {
-    let read = read_run(&input[..512]);
+    let read = read_run(&input[..SIZE]);
     match read {
         RunRead::NoRun(x) => run_line(out, x),
         RunRead::Found(run) => answer_room(run, input, out),

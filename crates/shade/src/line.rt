@@ -4,37 +4,10 @@ use print::put_byte;
 use print::put_field;
 use print::put_number;
 use print::put_word;
-use refusal::Refusal;
-use refusal::row_of;
 ghost use Prim.Native.Nat.{_+_, _*_, _≤_};
 ghost use lib.ListN.{length};
-ghost use Rattle.refusal.specs.Said.{said};
-ghost use Rattle.room.specs.Image.{saidIn};
-ghost use Rattle.shade.specs.Text.{answered, runLine, roomLine, pieceLine, pieceLines, page};
+ghost use Rattle.shade.specs.Text.{answered, pieceLine, pieceLines, page};
 ghost use Rattle.print.specs.Put.{Puts};
-
-// A refused run.
-pub(crate) fn run_line(out: &mut [u8], x: Refusal) -> usize
-    ensures { λ r. ⌜ Puts (now (out .entry)) 0 (runLine (said x)) (now (out .exit)) r ⌝ }
-    ensures { λ r. ⌜ r ≤ 128 ⌝ }
-{
-    let row = row_of(x);
-    let next = put_field(out, 0, b"refused run ", row.0);
-    put_byte(out, next, b'\n')
-}
-
-// A refused room, or a wrong length.
-pub(crate) fn room_line(out: &mut [u8], x: Refusal, block: usize) -> usize
-    ensures { λ r. ⌜ Puts (now (out .entry)) 0 (roomLine (saidIn x block)) (now (out .exit)) r ⌝ }
-    ensures { λ r. ⌜ r ≤ 128 ⌝ }
-{
-    let row = row_of(x);
-    let number = put_field(out, 0, b"refused ", row.0);
-    let place = put_field(out, number, b" block ", block);
-    let first = put_field(out, place, b" at ", row.1);
-    let second = put_field(out, first, b" ", row.2);
-    put_byte(out, second, b'\n')
-}
 
 // A piece's answer, and the mark where blocked.
 fn put_answer(out: &mut [u8], at: usize, code: u32) -> usize

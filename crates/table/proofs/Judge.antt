@@ -39,7 +39,7 @@ use Rattle.piece.specs.declared.motion.Verdict.the-variants as verdict
 use Rattle.whole.proofs.Decide.{yes, no, truth, decides, none-found, Below, none-yet, one-more, stop, seeks-end}
 use Rattle.footprint.proofs.Shape.{shares-decides, equal-decides, bends-decides}
 use Rattle.footprint.proofs.Finds.{found-stray, found-same, found-fold, found-meet, found-clockwise, found-good, footprint-finds}
-use Rattle.piece.proofs.Finds.{piece-finds, place-finds}
+use Rattle.good.proofs.Finds.{piece-finds, place-finds}
 
 -- ---- the first of several
 unfoldable pub seekFrom : (ℕ → Bool) → ℕ → ℕ → ℕ
@@ -236,12 +236,12 @@ pub judge-right : (k : Piece) → Finds (pieceChecks k) (judge k)
 unfolding judge pieceChecks sizedCheck bandCheck
 judge-right k = go (sizedFlag (k .corners)) (sized-decides (k .corners))
   where
-    band : Seeks (λ j. bandNumber k j → ⊥) 5 (bandOf k)
-    band = seeks _ _ 5 (λ j h. other (bandNumber k j) (bandFlag k j) (band-decides k j))
+    slab : Seeks (λ j. bandNumber k j → ⊥) 5 (bandOf k)
+    slab = seeks _ _ 5 (λ j h. other (bandNumber k j) (bandFlag k j) (band-decides k j))
 
     go : (t : Bool) → Decides (Sized (k .corners)) t → Finds (pieceChecks k) (cond t (pick (bandOf k) 5 (Refused (refusal.Reach (2 + 2 * bandOf k))) (shapeOf (k .corners))) (Refused refusal.Corners))
-    go true h = pick-finds (pieceChecks k) (bandOf k) 5 _ _ (λ a. inr (h, inl (_, first-found band a, refl)))
-        (λ a. piece-finds k (shapeOf (k .corners)) h (none-found band a) (shape-finds (k .corners)))
+    go true h = pick-finds (pieceChecks k) (bandOf k) 5 _ _ (λ a. inr (h, inl (_, first-found slab a, refl)))
+        (λ a. piece-finds k (shapeOf (k .corners)) h (none-found slab a) (shape-finds (k .corners)))
     go false h = inl (h, refl)
 
 -- ---- a place

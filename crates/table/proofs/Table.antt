@@ -13,13 +13,14 @@ use Rattle.refusal.specs.declared.Checked.{Checked}
 use Rattle.refusal.specs.declared.Checked.the-variants.{Good, Refused}
 use Rattle.refusal.specs.declared.Refusal.the-variants.{Fold, Meet, Clockwise}
 use Rattle.decide.specs.Span.{clip, raise, lower, none}
-use Rattle.decide.specs.Touch.{onLine, within, onEdge, touch, touches, onSome, place, bandSpan, meets, code}
+use Rattle.decide.specs.Touch.{onLine, within, onEdge, touch, touches, onSome, place, bandSpan, firstMark, code}
 use Rattle.piece.specs.declared.Placed.{Placed}
 use Rattle.piece.specs.declared.Placed.the-variants.{Inside, Outside}
 use Rattle.piece.specs.declared.motion.Verdict.{Verdict}
 use Rattle.piece.specs.declared.motion.Verdict.the-variants.{Clear, Mark}
 use Rattle.footprint.specs.Shape.{back}
-use Rattle.piece.specs.Place.{pt, Lies}
+use Rattle.good.specs.Numbers.{pt}
+use Rattle.piece.specs.Place.{Lies}
 use Rattle.piece.specs.Tells.{Tells}
 use Rattle.table.proofs.Judge.{seekFrom, shapeOf, footprintOf, judge, judge-right, placeOf, place-lies, runOf, verdictOf, verdict-tells}
 
@@ -130,5 +131,5 @@ all-true (r ∷ rs) = (computed-true r, all-true rs)
 
 -- every row is what is computed for it
 pub table : AllTrue rows
-unfolding seekFrom shapeOf footprintOf judge placeOf tally runOf verdictOf next back place onSome parity clip raise lower none onLine within onEdge touch touches bandSpan meets code
+unfolding seekFrom shapeOf footprintOf judge placeOf tally runOf verdictOf next back place onSome parity clip raise lower none onLine within onEdge touch touches bandSpan firstMark code
 table = all-true rows

@@ -1,4 +1,4 @@
--- `book::answer` meets its contract: what a look finds, and else what is worked out, by the laws of Found. Assumes nothing.
+-- `book::answer` meets its contract: what a look finds, and else what is worked out, by the laws of Asking. Assumes nothing.
 use mathlib.Core.Path.{ap, _∙_}
 use mathlib.Core.List.{List}
 use Prim.Native.Nat.{ℕ}
@@ -10,9 +10,9 @@ use Rattle.rules.specs.Reach.{Run, Piece}
 use Rattle.rules.specs.Good.{pieceChecks}
 use Rattle.rules.proofs.Reach.{run-known}
 use Rattle.refusal.proofs.Finds.{found-good, found-bad}
-use Rattle.piece.specs.Numbers.{runOf, pieceOf}
+use Rattle.good.specs.Numbers.{runOf, pieceOf}
 use Rattle.book.specs.Steps.{Cut}
-use Rattle.book.proofs.Found.{Asking, in-book, piece-fault, hits, works}
+use Rattle.book.proofs.Asking.{Asking, in-book, piece-fault, hits, works}
 use Rattle.book.proofs.answer.Statement.{statement}
 use Rattle.book.proofs.answer.Tie as tie
 
@@ -27,7 +27,7 @@ abbrev run : tie.After-lay → Run
 run c = runOf (start c .args .run)
 
 abbrev piece : tie.After-lay → Piece
-piece c = pieceOf (start c .args .band) (now (start c .args .corners))
+piece c = pieceOf (start c .args .slab) (now (start c .args .corners))
 
 abbrev front : tie.After-lay → List ℕ
 front c = c .lay .last .1 .1 .1 .0
@@ -36,7 +36,7 @@ abbrev end : tie.After-lay → ℕ
 end c = c .lay .result
 
 cut : (c : tie.After-lay) → Cut (front c) (end c)
-cut c = record { long = c .lay .kept .1 .1 .1 .0 ∙ ap length (start c .pre .1 .blank); within = c .lay .ensures .within }
+cut c = record { long = c .lay .kept .1 .1 .1 .0 ∙ start c .pre .1 .long; within = c .lay .ensures .within }
 
 -- ---- and its home slot
 abbrev laid : tie.After-home-of → tie.After-lay

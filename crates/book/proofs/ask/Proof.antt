@@ -6,11 +6,11 @@ use borrow.Author.Needs.{needs}
 use denote.Ref.{now}
 use Rattle.rules.specs.Reach.{Run, Piece}
 use Rattle.rules.specs.Good.{runChecks}
-use Rattle.piece.specs.Numbers.{runOf, pieceOf}
+use Rattle.good.specs.Numbers.{runOf, pieceOf}
 use Rattle.refusal.proofs.Finds.{found-good, found-bad}
 use Rattle.book.specs.Entry.{Slots}
 use Rattle.book.specs.Ask.{askChecks}
-use Rattle.book.proofs.Found.{run-faulty}
+use Rattle.book.proofs.Asking.{run-faulty}
 use Rattle.book.proofs.ask.Statement.{statement}
 use Rattle.book.proofs.ask.Tie as tie
 
@@ -36,7 +36,7 @@ abbrev run : tie.After-check-run → Run
 run c = runOf (c .before .before .before .before .before .args .run)
 
 abbrev piece : tie.After-check-run → Piece
-piece c = let a = c .before .before .before .before .before .args in pieceOf (a .band) (now (a .corners))
+piece c = let a = c .before .before .before .before .before .args in pieceOf (a .slab) (now (a .corners))
 
 returns-4 : tie.Need-returns-4
 unfolding askChecks
@@ -47,7 +47,7 @@ returns-4 c =
 answer-requires : tie.Need-answer-requires
 answer-requires c κs =
     let d = c .before .before .before .before in
-    (whole (d .before), record { good = found-good (runChecks (run d)) _ (d .check-run .ensures) (c .before .before .enum-told .given .1); blank = refl })
+    (whole (d .before), record { good = found-good (runChecks (run d)) _ (d .check-run .ensures) (c .before .before .enum-told .given .1); long = refl })
 
 pub ask-spec : {M : Type 1} → statement M
 ask-spec =

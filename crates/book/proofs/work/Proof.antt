@@ -6,7 +6,7 @@ use denote.Ref.{now}
 use Rattle.rules.specs.Reach.{Run, Piece}
 use Rattle.piece.specs.declared.motion.Coded.{Coded}
 use Rattle.piece.specs.declared.motion.Coded.the-variants.{Code, Refused}
-use Rattle.piece.specs.Numbers.{runOf, pieceOf}
+use Rattle.good.specs.Numbers.{runOf, pieceOf}
 use Rattle.piece.proofs.Tells.{TellsCode, tells-code}
 use Rattle.book.proofs.work.Statement.{statement}
 use Rattle.book.proofs.work.Tie as tie
@@ -16,7 +16,7 @@ abbrev run : tie.After-verdict → Run
 run c = runOf (c .before .before .before .args .run)
 
 abbrev piece : tie.After-verdict → Piece
-piece c = let a = c .before .before .before .args in pieceOf (a .band) (now (a .corners))
+piece c = let a = c .before .before .before .args in pieceOf (a .slab) (now (a .corners))
 
 -- the code, where it is known
 tells : (c : tie.After-coded) (d : Coded) → c .coded .result ≡ d → TellsCode (run (c .before)) (piece (c .before)) d

@@ -10,10 +10,10 @@ use mir.Syntax.{w32}
 use types.Run.{OneOf}
 use denote.Enum.Declared.{tagOf}
 use Rattle.whole.proofs.Range.{field}
-use Rattle.intake.specs.declared.Taken.{Taken}
-use Rattle.intake.specs.declared.Taken.the-variants.{Grid}
-use Rattle.intake.specs.Number.{Answer}
-use Rattle.intake.proofs.Taken as taken
+use Rattle.grid.specs.declared.Taken.{Taken}
+use Rattle.grid.specs.declared.Taken.the-variants.{Grid}
+use Rattle.grid.specs.Number.{Answer}
+use Rattle.grid.proofs.Taken as taken
 use Rattle.intake.proofs.pair.Statement.{statement}
 use Rattle.intake.proofs.pair.Tie as tie
 

@@ -9,18 +9,12 @@ use lib.IntN.{ℤ}
 use types.Run.{OneOf}
 use denote.Enum.Declared.{tagOf}
 use Rattle.rules.specs.Refusal.{refuse}
-use Rattle.intake.specs.declared.Taken.{Taken}
-use Rattle.intake.specs.declared.Taken.the-variants.{Grid, OffGrid, NotNumber, Beyond}
+use Rattle.grid.specs.declared.Taken.{Taken}
+use Rattle.grid.specs.declared.Taken.the-variants.{Grid, OffGrid, NotNumber, Beyond}
 use Rattle.intake.specs.Footprint.{Row}
-use Rattle.intake.proofs.Taken as taken
+use Rattle.grid.proofs.Taken as taken
 use Rattle.intake.proofs.refused.Statement.{statement}
 use Rattle.intake.proofs.refused.Tie as tie
-
-enum-told : tie.Need-enum-told
-enum-told c = search needs
-
-enum-told-2 : tie.Need-enum-told-2
-enum-told-2 c = search needs
 
 module _ (a b : ℕ) where
   -- the row of an answer whose kind was told
@@ -44,4 +38,4 @@ returns-3 : tie.Need-returns-3
 returns-3 c = let a = c .before .args in off-row (a .corner) (a .axis) (a .answer) (c .match .keys3)
 
 pub refused-spec : {M : Type 1} → statement M
-refused-spec = tie.close (tie.spec enum-told enum-told-2 returns returns-2 returns-3)
+refused-spec = tie.close (tie.spec (λ c. search needs) (λ c. search needs) returns returns-2 returns-3)

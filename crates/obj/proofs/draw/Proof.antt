@@ -1,4 +1,4 @@
--- `obj::draw` meets its contract. Assumes nothing.
+-- `obj::draw` meets its contract: the refusal of the piece, then that of the list, and else the list with the corners put. Assumes nothing.
 use mathlib.Core.Path.{refl, subst}
 use native.Mathlib.Omega.{arith}
 use denote.Ref.{now}
@@ -7,7 +7,7 @@ use Rattle.rules.specs.Good.{pieceChecks}
 use Rattle.rules.proofs.Checks.{fault-left, fault-right, passes-append}
 use Rattle.refusal.specs.Said.{Writes}
 use Rattle.refusal.proofs.Finds.{found-good, found-bad}
-use Rattle.piece.specs.Numbers.{pieceOf}
+use Rattle.good.specs.Numbers.{pieceOf}
 use Rattle.obj.proofs.draw.Statement.{statement}
 use Rattle.obj.proofs.draw.Tie as tie
 
@@ -20,10 +20,10 @@ enum-known-x c = c .match .keys1
 returns : tie.Need-returns
 returns c =
     let k = c .before .before .before in let a = k .before .args in
-    (fault-left (pieceChecks (pieceOf (a .band) (now (a .corners)))) _ _ (found-bad _ _ _ (k .check-piece .ensures) (c .before .x .given .1)), refl)
+    (fault-left (pieceChecks (pieceOf (a .slab) (now (a .corners)))) _ _ (found-bad _ _ _ (k .check-piece .ensures) (c .before .x .given .1)), refl)
 
 -- the piece is good
-good : (c : tie.After-enum-told) → let a = c .before .before .before .args in Passes (pieceChecks (pieceOf (a .band) (now (a .corners))))
+good : (c : tie.After-enum-told) → let a = c .before .before .before .args in Passes (pieceChecks (pieceOf (a .slab) (now (a .corners))))
 good c = let k = c .before .before in found-good _ _ (k .check-piece .ensures) (c .enum-told .given .1)
 
 enum-told : tie.Need-enum-told
@@ -42,7 +42,7 @@ returns-2 : tie.Need-returns-2
 returns-2 c =
     let p = c .before .before .before .before in let t = p .before .before in let a = t .before .before .before .args in
     let w = subst (Writes _ _ _ _) (c .before .x2 .given .1) (p .put .ensures) in
-    (fault-right (pieceChecks (pieceOf (a .band) (now (a .corners)))) _ _ (good t) (w .0), w .1)
+    (fault-right (pieceChecks (pieceOf (a .slab) (now (a .corners)))) _ _ (good t) (w .0), w .1)
 
 enum-told-2 : tie.Need-enum-told-2
 enum-told-2 c = c .match2 .keys2
@@ -54,7 +54,7 @@ returns-3 : tie.Need-returns-3
 returns-3 c =
     let p = c .before .before .before in let t = p .before .before in let a = t .before .before .before .args in
     let w = subst (Writes _ _ _ _) (c .enum-told2 .given .1) (p .put .ensures) in
-    (passes-append (pieceChecks (pieceOf (a .band) (now (a .corners)))) _ (good t) (w .0), refl, w .1)
+    (passes-append (pieceChecks (pieceOf (a .slab) (now (a .corners)))) _ (good t) (w .0), refl, w .1)
 
 pub draw-spec : {M : Type 1} → statement M
 draw-spec =

@@ -1,4 +1,4 @@
--- `obj::footprint` meets its contract. Assumes nothing.
+-- `obj::footprint` meets its contract: a file too long; then what the pass over its lines finds; and else what tracing the face that was seen answers. Assumes nothing.
 use mathlib.Core.Path.{_≡_, refl, subst}
 use Prim.Native.Nat.{_≤_}
 use native.Mathlib.Omega.{arith}

@@ -1,4 +1,4 @@
--- `obj::trace` meets its contract. Assumes nothing.
+-- `obj::trace` meets its contract: no face; then what gathering its corners finds; then more than 64 of them; and else what drawing them answers. Assumes nothing.
 use mathlib.Core.Path.{_≡_, refl, sym, subst}
 use Prim.Native.Nat.{_≤_}
 use native.Mathlib.Omega.{arith}
@@ -6,9 +6,9 @@ use borrow.Author.Tests.{not-true, not-false}
 use denote.Ref.{now}
 use lib.ListN.{length}
 use lib.Seq.{length-take-le}
-use Rattle.piece.specs.Numbers.{pieceOf}
+use Rattle.good.specs.Numbers.{pieceOf}
 use Rattle.obj.specs.declared.Outline.{Outline}
-use Rattle.obj.specs.Text.{lines}
+use Rattle.line.specs.Text.{lines}
 use Rattle.obj.specs.File.{points}
 use Rattle.obj.specs.Steps.{Faced, Gathers, Draws}
 use Rattle.obj.proofs.Seen.{none-seen, face-seen}
@@ -34,18 +34,24 @@ part-gather-start c = faced c .order
 part-gather-end : tie.Need-part-gather-end
 part-gather-end c = faced c .below
 
+-- it has few vertices above it
+few : (c : tie.Else1) → c .before .before .before .args .seen .above ≤ 8192
+few c = let s = c .before .before .before in let r = s .pre .2 .room in let m = faced c .few in let h = s .pre .0 in omega arith
+
+cast-gather : tie.Need-cast-gather
+cast-gather c = let h = few (c .before .before) in omega arith
+
 slice-aggregate-gather : tie.Need-slice-aggregate-gather
 slice-aggregate-gather c = refl
 
 gather-requires : tie.Need-gather-requires
 gather-requires c κs =
-    let e = c .before .before in let s = e .before .before .before in let f = faced e in let r = s .pre .2 .room in let m = f .few in let z = s .pre .1 in
-    let few : s .args .seen .above ≤ 8192 = omega arith in
-    record { indices = f .indices; says = f .line; named = f .named; few = omega arith; fits = omega arith; size = refl }
+    let e = c .before .before .before in let s = e .before .before .before in let f = faced e in let h = few e in let z = s .pre .1 in
+    record { indices = f .indices; says = f .line; named = f .named; fits = omega arith; size = refl }
 
 -- what was gathered, of the points that the face names
 abbrev seen : tie.After-gather → tie.Else1
-seen c = c .before .before .before
+seen c = c .before .before .before .before
 
 gathers : (c : tie.After-gather) {r : Outline} → c .gather .result ≡ r → let f = faced (seen c) in Gathers (points (f .vertices) (f .indices)) (c .gather .last .1 .1 .1 .0) r
 gathers c q = let f = faced (seen c) in subst (Gathers _ _) q (c .gather .ensures (f .vertices) (f .indices) (f .count) (f .line) (f .tabled))
@@ -88,7 +94,7 @@ returns-4 : tie.Need-returns-4
 returns-4 c =
     let d = c .before in let i = d .before .before .before in let n = i .before .before in let g = n .before .before .before in let s = seen g .before .before .before in
     let f = faced (seen g) in let w = gathers g (n .n .given .1) in
-    let k = pieceOf (s .args .band) in let before = now (s .args .list) in let after = d .draw .last .1 .1 .0 in let r = d .draw .result in
+    let k = pieceOf (s .args .slab) in let before = now (s .args .list) in let after = d .draw .last .1 .1 .0 in let r = d .draw .result in
     draws-says _ k before after (s .pre .0) (s .pre .2 .passes) _ (f .face) (w .passes) r
     (subst (λ l. Draws k l before after r) (gathered-corners _ _ _ w (i .if2 .left)) (d .draw .ensures))
 
@@ -100,6 +106,7 @@ trace-spec =
     sub-gather
     part-gather-start
     part-gather-end
+    cast-gather
     slice-aggregate-gather
     gather-requires
     enum-known-x

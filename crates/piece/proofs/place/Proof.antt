@@ -1,5 +1,6 @@
--- `place` meets its contract. Assumes nothing.
-use Rattle.piece.specs.Place.{pt, whereOf}
+-- `place` meets its contract: a fault is what the checks found, and where they pass `grid_spot` has the place, case by case. Assumes nothing.
+use Rattle.good.specs.Numbers.{pt}
+use Rattle.piece.specs.Place.{whereOf}
 use Rattle.piece.specs.declared.spot.Spot.{Spot}
 use Rattle.refusal.specs.Said.{Finds}
 use Rattle.rules.specs.Place.{Place, placeChecks}

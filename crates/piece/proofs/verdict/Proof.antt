@@ -1,4 +1,4 @@
--- `verdict` meets its contract. Assumes nothing.
+-- `verdict` meets its contract: the run's fault, else the piece's, and of two that pass the code is the verdict. Assumes nothing.
 use mathlib.Core.Path.{sym, subst}
 use Prim.Native.Nat.{ℕ}
 use native.Mathlib.Omega.{arith}
@@ -12,7 +12,7 @@ use Rattle.rules.proofs.Checks.{passes-append, fault-left, fault-right}
 use Rattle.rules.proofs.Reach.{run-known, piece-known}
 use Rattle.refusal.specs.Said.{Finds}
 use Rattle.decide.proofs.Verdict.{verdict-right}
-use Rattle.piece.specs.Numbers.{runOf, pieceOf}
+use Rattle.good.specs.Numbers.{runOf, pieceOf}
 use Rattle.piece.proofs.verdict.Statement.{statement}
 use Rattle.piece.proofs.verdict.Tie as tie
 
@@ -20,39 +20,34 @@ abbrev R : tie.Start → Run
 R b = runOf (b .args .run)
 
 abbrev K : tie.Start → Piece
-K b = pieceOf (b .args .band) (b .args .corners .now)
+K b = pieceOf (b .args .slab) (b .args .corners .now)
+
+-- where the function began, as seen from the run that passed; and that, as seen from the piece that passed
+abbrev start : tie.After-enum-told → tie.Start
+start c = c .before .before .before
+
+abbrev run-passed : tie.After-enum-told2 → tie.After-enum-told
+run-passed c = c .before .before .before
+
+abbrev begin : tie.After-enum-told2 → tie.Start
+begin c = start (run-passed c)
 
 -- what each check that passes says
-run-good : (c : tie.After-enum-told) → Passes (runChecks (R (c .before .before .before)))
-run-good c = subst (Finds (runChecks (R (c .before .before .before)))) (c .enum-told .given .1) (c .before .before .check-run .ensures)
+run-good : (c : tie.After-enum-told) → Passes (runChecks (R (start c)))
+run-good c = subst (Finds (runChecks (R (start c)))) (c .enum-told .given .1) (c .before .before .check-run .ensures)
 
-piece-good : (c : tie.After-enum-told2) → Passes (pieceChecks (K (c .before .before .before .before .before .before)))
-piece-good c = subst (Finds (pieceChecks (K (c .before .before .before .before .before .before)))) (c .enum-told2 .given .1) (c .before .before .check-piece .ensures)
+piece-good : (c : tie.After-enum-told2) → Passes (pieceChecks (K (begin c)))
+piece-good c = subst (Finds (pieceChecks (K (begin c)))) (c .enum-told2 .given .1) (c .before .before .check-piece .ensures)
 
-all-good : (c : tie.After-enum-told2) → let b = c .before .before .before .before .before .before in Passes (verdictChecks (R b) (K b))
+all-good : (c : tie.After-enum-told2) → let b = begin c in Passes (verdictChecks (R b) (K b))
 unfolding verdictChecks
-all-good c = let b = c .before .before .before .before .before .before in passes-append (runChecks (R b)) (pieceChecks (K b)) (run-good (c .before .before .before)) (piece-good c)
-
-check-run-requires : tie.Need-check-run-requires
-check-run-requires c κs = search needs
-
-enum-known-first : tie.Need-enum-known-first
-enum-known-first c = search needs
+all-good c = let b = begin c in passes-append (runChecks (R b)) (pieceChecks (K b)) (run-good (run-passed c)) (piece-good c)
 
 returns : tie.Need-returns
 unfolding verdictChecks
 returns c =
     let b = c .before .before .before .before in
     fault-left (runChecks (R b)) (pieceChecks (K b)) _ (subst (Finds (runChecks (R b))) (c .before .first .given .1) (c .before .before .before .check-run .ensures))
-
-enum-told : tie.Need-enum-told
-enum-told c = search needs
-
-check-piece-requires : tie.Need-check-piece-requires
-check-piece-requires c κs = search needs
-
-enum-known-then : tie.Need-enum-known-then
-enum-known-then c = search needs
 
 returns-2 : tie.Need-returns-2
 unfolding verdictChecks
@@ -61,22 +56,19 @@ returns-2 c =
     let b = d .before .before .before .before in
     fault-right (runChecks (R b)) (pieceChecks (K b)) _ (run-good (d .before)) (subst (Finds (pieceChecks (K b))) (c .before .then .given .1) (d .check-piece .ensures))
 
-enum-told-2 : tie.Need-enum-told-2
-enum-told-2 c = search needs
-
 code-requires : tie.Need-code-requires
-code-requires c κs = (run-known _ (run-good (c .before .before .before)), piece-known _ (piece-good c))
+code-requires c κs = (run-known _ (run-good (run-passed c)), piece-known _ (piece-good c))
 
 -- the code is the verdict
-right : (c : tie.After-code) → let b = c .before .before .before .before .before .before .before in Verdict (R b) (K b) (answer (c .code .result))
+right : (c : tie.After-code) → let b = begin (c .before) in Verdict (R b) (K b) (answer (c .code .result))
 right c =
-    let b = c .before .before .before .before .before .before .before in
-    subst (λ (n : ℕ). Verdict (R b) (K b) (answer n)) (sym (c .code .ensures)) (verdict-right (R b) (K b) (run-known _ (run-good (c .before .before .before .before)) 6 (omega arith)))
+    let b = begin (c .before) in
+    subst (λ (n : ℕ). Verdict (R b) (K b) (answer n)) (sym (c .code .ensures)) (verdict-right (R b) (K b) (run-known _ (run-good (run-passed (c .before))) 6 (omega arith)))
 
 returns-3 : tie.Need-returns-3
 returns-3 c =
     let d = c .before in
-    let b = d .before .before .before .before .before .before .before in
+    let b = begin (d .before) in
     (all-good (d .before), subst (λ (n : ℕ). Verdict (R b) (K b) (answer n)) (c .if1 .taken) (right d))
 
 returns-4 : tie.Need-returns-4
@@ -85,4 +77,17 @@ returns-4 c =
     (all-good (d .before), rw (ne-eqb (d .code .result) NONE (c .if1 .left)) at (right d))
 
 pub verdict-spec : {M : Type 1} → statement M
-verdict-spec = tie.close (tie.spec check-run-requires enum-known-first returns enum-told check-piece-requires enum-known-then returns-2 enum-told-2 code-requires returns-3 returns-4)
+verdict-spec =
+    tie.close
+    (tie.spec
+    (λ c κs. search needs)
+    (λ c. search needs)
+    returns
+    (λ c. search needs)
+    (λ c κs. search needs)
+    (λ c. search needs)
+    returns-2
+    (λ c. search needs)
+    code-requires
+    returns-3
+    returns-4)

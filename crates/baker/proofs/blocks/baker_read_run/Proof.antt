@@ -1,14 +1,14 @@
--- `baker_read_run` meets its contract. Assumes nothing.
+-- `baker_read_run` meets its contract: a refusal is coded and changes nothing, and a run that was found is good, so its moment is small enough to be put. Assumes nothing.
 use mathlib.Core.Path.{ap, subst}
 use Prim.Native.Nat.{ℕ}
 use denote.Ref.{now}
-use Rattle.piece.specs.Numbers.{runOf}
+use Rattle.good.specs.Numbers.{runOf}
 use Rattle.block.specs.declared.RunRead.the-variants.{Found}
 use Rattle.block.specs.Reading.{RunSays}
 use Rattle.block.proofs.RunLaws.{good-ticks}
-use Rattle.baker.specs.Coded.{out, coded}
+use Rattle.coding.specs.Coded.{out, coded}
 use Rattle.baker.specs.Listed.{runListed}
-use Rattle.baker.proofs.Codes.{by}
+use Rattle.coding.proofs.Codes.{by}
 use borrow.Author.Needs.{needs}
 use Rattle.baker.proofs.blocks.baker_read_run.Statement.{statement}
 use Rattle.baker.proofs.blocks.baker_read_run.Tie as tie

@@ -1,4 +1,4 @@
--- `baker_take` meets its contract. Assumes nothing.
+-- `baker_take` meets its contract: each of the four cases is coded, with what is then in the two lent numbers. Assumes nothing.
 use mathlib.Core.Path.{_≡_, refl, ap}
 use Prim.Native.Nat.{ℕ}
 use native.Mathlib.Omega.{arith}
@@ -6,11 +6,11 @@ use denote.Ref.{now}
 use lib.IntN.{ℤ}
 use mir.Syntax.{w32}
 use Rattle.whole.proofs.Range.{field}
-use Rattle.intake.specs.declared.Taken.{Taken}
-use Rattle.intake.specs.Number.{Answer}
-use Rattle.baker.specs.Coded.{Coded, Out, out, coded}
+use Rattle.grid.specs.declared.Taken.{Taken}
+use Rattle.grid.specs.Number.{Answer}
+use Rattle.coding.specs.Coded.{Coded, Out, out, coded}
 use Rattle.baker.specs.Export.{Lent, lent, takenOne}
-use Rattle.baker.proofs.Codes.{by}
+use Rattle.coding.proofs.Codes.{by}
 use borrow.Author.Needs.{needs}
 use Rattle.baker.proofs.export.baker_take.Statement.{statement}
 use Rattle.baker.proofs.export.baker_take.Tie as tie

@@ -1,4 +1,4 @@
--- `baker::export::export` meets its contract. Assumes nothing.
+-- `baker::export::export` meets its contract: an odd count of numbers; then more than 64 corners; and else what the intake of the pairs answers. Assumes nothing.
 use mathlib.Core.Path.{refl}
 use mathlib.Core.Logic.{inl, inr}
 use native.Mathlib.Omega.{arith}
@@ -18,15 +18,6 @@ returns-2 : tie.Need-returns-2
 unfolding exportChecks intakeChecks
 returns-2 c = record { finds = inr (c .before .if1 .left, inl ((λ h. absurd (omega (arith, h .most, c .if2 .taken))), refl)); list = refl }
 
-corners-of-requires : tie.Need-corners-of-requires
-corners-of-requires c κs = search needs
-
-intake-requires : tie.Need-intake-requires
-intake-requires c κs = search needs
-
-same-length : tie.Need-same-length
-same-length c = search needs
-
 returns-3 : tie.Need-returns-3
 returns-3 c =
     let k = c .before .before .before in
@@ -38,4 +29,4 @@ returns-3 c =
 pub export-spec : {M : Type 1} → statement M
 export-spec =
     tie.close
-    (tie.spec returns returns-2 corners-of-requires intake-requires same-length returns-3)
+    (tie.spec returns returns-2 (λ c κs. search needs) (λ c κs. search needs) (λ c. search needs) returns-3)

@@ -1,23 +1,17 @@
--- `baker_place` meets its contract. Assumes nothing.
+-- `baker_place` meets its contract: the point as the machine reads it back is the one that was given, and lies where it lies. Assumes nothing.
 use denote.Ref.{now}
 use Rattle.rules.specs.Ring.{Pt}
 use Rattle.piece.specs.Place.{Lies}
-use Rattle.baker.specs.Coded.{placedCode}
-use Rattle.baker.proofs.Back.{pt-back, coded-back}
+use Rattle.coding.specs.Coded.{placedCode}
+use Rattle.baker.proofs.Back.{coded-back}
 use borrow.Author.Needs.{needs}
 use Rattle.baker.proofs.numbers.baker_place.Statement.{statement}
 use Rattle.baker.proofs.numbers.baker_place.Tie as tie
 
-place-requires : tie.Need-place-requires
-place-requires c κs = search needs
-
-placed-requires : tie.Need-placed-requires
-placed-requires c κs = search needs
-
 returns : tie.Need-returns
 returns c =
-    let s = c .before .before in
-    coded-back (λ (p : Pt). Lies p (now (s .args .corners))) placedCode (c .before .place .result) (pt-back (s .fits .x) (s .fits .y)) (c .before .place .ensures) (c .placed .ensures)
+    let w = c .before in
+    coded-back (λ (p : Pt). Lies p (now (w .before .args .corners))) placedCode (w .place .result) (search needs) (w .place .ensures) (c .placed .ensures)
 
 pub baker-place-spec : {M : Type 1} → statement M
-baker-place-spec = tie.close (tie.spec place-requires placed-requires returns)
+baker-place-spec = tie.close (tie.spec (λ c κs. search needs) (λ c κs. search needs) returns)

@@ -1,17 +1,17 @@
--- `baker_room_piece` meets its contract. Assumes nothing.
+-- `baker_room_piece` meets its contract: each case of the step is coded as it is listed, and a piece that was found has few enough corners to be put. Assumes nothing.
 use mathlib.Core.Path.{_≡_, refl, ap, subst}
 use mathlib.Core.List.{List}
 use Prim.Native.Nat.{ℕ, suc}
 use lib.IntN.{ℤ}
 use denote.Ref.{now}
-use Rattle.block.specs.Layout.{blockAt}
+use Rattle.seal.specs.Seal.{blockAt}
 use Rattle.room.specs.Step.{pieceRead, Gives, StepFinds}
 use Rattle.room.specs.declared.Found.{Found}
-use Rattle.baker.specs.Coded.{Out, out, coded}
+use Rattle.coding.specs.Coded.{Out, out, coded}
 use Rattle.baker.specs.Listed.{stepFound}
 use Rattle.baker.specs.Calls.{RoomPieceGives}
-use Rattle.baker.proofs.Codes.{by}
-use Rattle.baker.proofs.Listed.{read-holds}
+use Rattle.coding.proofs.Codes.{by}
+use Rattle.baker.proofs.Listed.{read-few}
 use borrow.Author.Needs.{needs}
 use Rattle.baker.proofs.rooms.baker_room_piece.Statement.{statement}
 use Rattle.baker.proofs.rooms.baker_room_piece.Tie as tie
@@ -38,10 +38,10 @@ module _ (w : tie.After-piece-at) where
 
 put-piece-requires : tie.Need-put-piece-requires
 put-piece-requires c κs =
-    let t = c .before .before .before in
+    let t = c .before .before in
     let w = t .before .before in
     let s = w .before .before in
-    read-holds (blockAt (now (s .args .image)) (suc (s .args .place))) (pieceRead (w .piece-at .result)) (gives t .good)
+    read-few (blockAt (now (s .args .image)) (suc (s .args .place))) (pieceRead (w .piece-at .result)) (gives t .good)
 
 returns : tie.Need-returns
 returns c = stepped (c .before .before) (c .enum-told .given .1) refl
@@ -53,7 +53,7 @@ returns-2 c =
 
 returns-3 : tie.Need-returns-3
 returns-3 c =
-    let t = c .before .before .before .before .before in
+    let t = c .before .before .before .before in
     stepped (t .before .before) (t .enum-told2 .given .1) (c .before .put-piece .ensures)
 
 pub baker-room-piece-spec : {M : Type 1} → statement M

@@ -1,10 +1,12 @@
--- `block::header::write_header` meets its contract. Assumes nothing.
-use mathlib.Core.Path.{refl, ap, _∙_}
+-- `block::header::write_header` meets its contract: the length and the count, then six bytes as the first part of a block whose second is empty. Assumes nothing.
+use mathlib.Core.Path.{refl}
 use mathlib.Core.Logic.{inl, inr}
 use native.Mathlib.Omega.{arith}
-use Rattle.block.specs.Layout.{blockOf, headerBlock}
-use Rattle.block.specs.Reading.{headerAsked}
 use borrow.Author.Needs.{needs}
+use denote.Ref.{now}
+use Rattle.seal.proofs.PartLaws.{front-writes}
+use Rattle.block.specs.Layout.{headerFront, headerBlock}
+use Rattle.block.specs.Reading.{headerAsked}
 use Rattle.block.proofs.header.write_header.Statement.{statement}
 use Rattle.block.proofs.header.write_header.Tie as tie
 
@@ -16,24 +18,27 @@ returns-2 : tie.Need-returns-2
 unfolding headerAsked
 returns-2 c = (inr (c .before .if1 .left, inl (λ h. omega arith, refl)), refl)
 
-lay-header-requires : tie.Need-lay-header-requires
-lay-header-requires c κs = search needs
-
-finish-requires : tie.Need-finish-requires
-finish-requires c κs = search needs
-
-same-length : tie.Need-same-length
-same-length c = search needs
-
 returns-3 : tie.Need-returns-3
 unfolding headerAsked headerBlock
 returns-3 c =
-    let f = c .before .before in let d = f .before .before .before .before in let b = d .before .before in (
-      (b .before .if1 .left, (b .if2 .left, tt)),
-      f .finish .ensures ∙ ap blockOf (d .lay-header .ensures),
-    )
+    let w = c .before .before in let d = w .before .before .before .before in let a = d .before .before .before .args in
+    front-writes (headerFront (a .pieces)) 6 (omega arith) (omega arith) (headerAsked (now (a .block)) (a .pieces)) (headerFront (a .pieces)) (now (a .block))
+    (w .write-parts .last .1 .1 .1 .0) (w .write-parts .result) refl
+    (d .before .if1 .left) (d .before .if1 .left, (d .if2 .left, tt)) (w .write-parts .ensures)
 
 pub write-header-spec : {M : Type 1} → statement M
 write-header-spec =
     tie.close
-    (tie.spec returns returns-2 lay-header-requires finish-requires same-length returns-3)
+    (tie.spec
+    returns
+    returns-2
+    (λ c. search needs)
+    (λ c. search needs)
+    (λ c. search needs)
+    (λ c. search needs)
+    (λ c. search needs)
+    (λ c. search needs)
+    (λ c. search needs)
+    (λ c κs. search needs)
+    (λ c. search needs)
+    returns-3)

@@ -1,4 +1,4 @@
--- `block::kind::check_bytes` meets its contract. Assumes nothing.
+-- `block::kind::check_bytes` meets its contract: the checks of a kind are those of the call that it takes. Assumes nothing.
 use denote.Ref.{now}
 use Rattle.block.proofs.Found.{of-kind}
 use borrow.Author.Needs.{needs}

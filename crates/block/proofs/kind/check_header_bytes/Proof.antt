@@ -1,4 +1,4 @@
--- `block::kind::check_header_bytes` meets its contract. Assumes nothing.
+-- `block::kind::check_header_bytes` meets its contract: the letters, the edition, the count, then the unnamed bytes, each looked at where those before it are right. Assumes nothing.
 use mathlib.Core.Path.{refl}
 use mathlib.Core.Logic.{inl, inr}
 use native.Mathlib.Omega.{arith}
@@ -6,7 +6,7 @@ use denote.Ref.{now}
 use Rattle.block.specs.Reading.{headerBytes}
 use Rattle.whole.proofs.Decide.{none-found}
 use Rattle.rules.proofs.Checks.{first-found}
-use Rattle.block.proofs.Face.{header-last}
+use Rattle.block.proofs.KindLaws.{header-last}
 use borrow.Author.Needs.{needs}
 use Rattle.block.proofs.kind.check_header_bytes.Statement.{statement}
 use Rattle.block.proofs.kind.check_header_bytes.Tie as tie
@@ -31,7 +31,7 @@ returns-3 c =
 returns-4 : tie.Need-returns-4
 returns-4 c =
     let d = c .before .before .before in let e = d .before .before in let f = e .before in
-    header-last (now (f .before .before .args .block)) (c .check-unnamed .result) (none-found (f .first-letter .ensures) (e .if1 .left)) (d .if2 .left) (c .before .if3 .left)
+    header-last (now (f .before .before .args .block)) (c .check-unnamed .result) (f .before .before .pre) (none-found (f .first-letter .ensures) (e .if1 .left)) (d .if2 .left) (c .before .if3 .left)
     (c .check-unnamed .ensures)
 
 pub check-header-bytes-spec : {M : Type 1} → statement M

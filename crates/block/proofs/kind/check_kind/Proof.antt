@@ -1,7 +1,8 @@
 -- `block::kind::check_kind` meets its contract: length and check are looked at first. Assumes nothing.
 use denote.Ref.{now}
 use Rattle.rules.proofs.Checks.{fault-left}
-use Rattle.block.specs.Reading.{blockChecks, bytesOf}
+use Rattle.seal.specs.Seal.{blockChecks}
+use Rattle.block.specs.Reading.{bytesOf}
 use Rattle.refusal.proofs.Finds.{finds-right, found-good, found-bad}
 use borrow.Author.Needs.{needs}
 use Rattle.block.proofs.kind.check_kind.Statement.{statement}

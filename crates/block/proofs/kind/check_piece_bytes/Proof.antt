@@ -1,10 +1,10 @@
--- `block::kind::check_piece_bytes` meets its contract. Assumes nothing.
+-- `block::kind::check_piece_bytes` meets its contract: the kind, the corner count from both sides, then the unnamed bytes, each looked at where those before it are right. Assumes nothing.
 use mathlib.Core.Path.{refl}
 use mathlib.Core.Logic.{inl, inr}
 use native.Mathlib.Omega.{arith}
 use denote.Ref.{now}
 use Rattle.block.specs.Reading.{pieceBytes}
-use Rattle.block.proofs.Face.{piece-last}
+use Rattle.block.proofs.KindLaws.{piece-last}
 use borrow.Author.Needs.{needs}
 use Rattle.block.proofs.kind.check_piece_bytes.Statement.{statement}
 use Rattle.block.proofs.kind.check_piece_bytes.Tie as tie
@@ -27,7 +27,7 @@ returns-3 c = inr (c .before .before .before .if1 .left, inl (λ h. let l = h .m
 returns-4 : tie.Need-returns-4
 returns-4 c =
     let d = c .before .before in let e = d .before .before in
-    piece-last (now (e .before .before .before .args .block)) (c .check-unnamed .result) (e .if1 .left) (record { least = d .if2 .left; most = c .before .if3 .left })
+    piece-last (now (e .before .before .before .args .block)) (c .check-unnamed .result) (e .before .before .before .pre) (e .if1 .left) (record { least = d .if2 .left; most = c .before .if3 .left })
     (c .check-unnamed .ensures)
 
 pub check-piece-bytes-spec : {M : Type 1} → statement M

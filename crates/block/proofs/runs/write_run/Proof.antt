@@ -1,19 +1,19 @@
 -- `block::runs::write_run` meets its contract: two bytes, and then the run's. Assumes nothing.
-use mathlib.Core.Path.{_≡_, refl, ap, _∙_}
-use mathlib.Core.Logic.{inl, inr}
-use mathlib.Core.List.{List, _∷_}
-use Prim.Native.Nat.{ℕ}
+use mathlib.Core.Path.{refl, sym, ap, subst, _∙_}
+use mathlib.Core.Logic.{inl, inr, ⊎-elim}
+use mathlib.Core.List.{List, _∷_, append-nil}
+use Prim.Native.Nat.{ℕ, suc}
 use native.Mathlib.Omega.{arith}
 use borrow.Author.Needs.{needs}
-use lib.ListN.{length, set, length-set}
+use lib.ListN.{length, replicate}
 use denote.Ref.{now}
-use Rattle.rules.specs.Good.{runChecks}
-use Rattle.piece.specs.Numbers.{runOf}
-use Rattle.block.specs.Layout.{blockSize, runKind, blockOf, runBlock}
-use Rattle.block.specs.Reading.{runAsked}
-use Rattle.refusal.proofs.Finds.{found-good, found-bad}
+use Rattle.rules.specs.Reach.{Run}
+use Rattle.refusal.specs.declared.Checked.the-variants.{Good}
+use Rattle.good.specs.Numbers.{runOf}
+use Rattle.seal.proofs.PartLaws.{front-writes}
+use Rattle.block.specs.Layout.{runKind, runBody, runBlock}
+use Rattle.block.specs.Reading.{runBodyAsked, runAsked, WriteRunBodySays}
 use Rattle.block.proofs.Bodies.{run-body-length}
-use Rattle.block.proofs.Mid.{part-length, two-length, two-then}
 use Rattle.block.proofs.runs.write_run.Statement.{statement}
 use Rattle.block.proofs.runs.write_run.Tie as tie
 
@@ -21,73 +21,63 @@ returns : tie.Need-returns
 unfolding runAsked
 returns c = (inl (c .if1 .taken, refl), refl)
 
+-- ---- the places: what was given, as seen from the run's bytes; these, from where they are known to be right; and that, from the block's
+abbrev start : tie.After-write-run-body → tie.Start
+start c = c .before .before .before .before
+
+abbrev written : tie.After-enum-told → tie.After-write-run-body
+written c = c .before .before .before
+
+abbrev right : tie.After-write-parts → tie.After-enum-told
+right c = c .before .before .before .before
+
+-- ---- the run and its bytes, where they were written
+abbrev run : tie.After-write-run-body → Run
+run c = runOf (start c .args .run)
+
+abbrev bytes : tie.After-enum-told → List ℕ
+bytes c = written c .write-run-body .last .1 .0
+
+laid : (c : tie.After-enum-told) → WriteRunBodySays (run (written c)) (replicate 14 0) (bytes c) Good
+laid c =
+    let w = written c in let r = run w in
+    subst (WriteRunBodySays r (replicate 14 0) (bytes c)) (c .enum-told .given .1) (w .write-run-body .ensures)
+
+slice-aggregate-write-parts : tie.Need-slice-aggregate-write-parts
+slice-aggregate-write-parts c =
+    let r = run (written (c .before)) in
+    ap (λ n. suc (suc n)) (sym (ap length (append-nil (bytes (c .before)) ∙ laid (c .before) .1) ∙ run-body-length r))
+
 returns-2 : tie.Need-returns-2
-unfolding runAsked
+unfolding runAsked runBodyAsked
 returns-2 c =
-    let d = c .before .before .before in let e = d .before in
-    (inr (e .if1 .left, found-bad (runChecks (runOf (e .before .before .args .run))) _ _ (d .check-run .ensures) (c .before .x .given .1)), refl)
-
-part-lay-run-end : tie.Need-part-lay-run-end
-part-lay-run-end c = simp length-set (omega (arith, c .before .before .before .if1 .left))
-
-lay-run-requires : tie.Need-lay-run-requires
-lay-run-requires c κs =
-    let d = c .before .before .before in let e = d .before in let a = e .before .before .args in (
-      found-good (runChecks (runOf (a .run))) _ (d .check-run .ensures) (c .before .enum-told .given .1),
-      part-length (set (set (now (a .block)) 0 runKind) 1 0) 2 14 (simp length-set (omega (arith, e .if1 .left))),
-    )
-
--- ---- once the run's bytes are laid: what is given, its length, and the bytes
-abbrev start : tie.After-lay-run → tie.Start
-start c = c .before .before .before .before .before .before .before
-
-abbrev block : tie.After-lay-run → List ℕ
-block c = now (start c .args .block)
-
-long : (c : tie.After-lay-run) → length (block c) ≡ blockSize
-long c = c .before .before .before .before .before .if1 .left
-
-abbrev bytes : tie.After-lay-run → List ℕ
-bytes c = c .lay-run .last .1 .0
-
-bytes-long : (c : tie.After-lay-run) → length (bytes c) ≡ 14
-bytes-long c = ap length (c .lay-run .ensures) ∙ run-body-length (runOf (start c .args .run))
-
-finish-requires : tie.Need-finish-requires
-finish-requires c κs =
-    let d = c .before .before .before in
-    (omega arith, two-length (block d) (bytes d) runKind 0 14 (omega (arith, long d)) (bytes-long d) ∙ long d)
-
-same-length : tie.Need-same-length
-same-length c =
-    let d = c .before .before .before .before .before .before in
-    c .before .before .finish .kept .0 ∙ two-length (block d) (bytes d) runKind 0 14 (omega (arith, long d)) (bytes-long d)
+    let w = c .before .before .before .before in let r = run w in let x = c .before .x .given .0 .0 in
+    let f = subst (WriteRunBodySays r (replicate 14 0) (w .write-run-body .last .1 .0)) (c .before .x .given .1) (w .write-run-body .ensures) in
+    (inr (w .before .before .if1 .left, ⊎-elim (λ h. absurd (h .0 refl)) (λ h. h .1) (f .0)), refl)
 
 returns-3 : tie.Need-returns-3
-unfolding runAsked runBlock
+unfolding runAsked runBodyAsked runBlock
 returns-3 c =
-    let d = c .before .before .before .before .before .before in let g = d .before .before in let e = g .before .before in (
-      (long d, found-good (runChecks (runOf (start d .args .run))) _ (e .check-run .ensures) (g .enum-told .given .1)),
-      c .before .before .finish .ensures
-          ∙ ap blockOf
-          (two-then (block d) (bytes d) runKind 0 14 (omega (arith, long d)) (bytes-long d) ∙ ap (λ (l : List ℕ). runKind ∷ 0 ∷ l) (d .lay-run .ensures)),
-    )
+    let w = c .before .before in let told = right w in let k = written told in let d = k .before .before in let a = start k .args in
+    let r = run k in let p = laid told in let e = append-nil (bytes told) ∙ p .1 in let h = ap length e ∙ run-body-length r in
+    front-writes _ 16 (omega (arith, h)) (omega arith) (runAsked (now (a .block)) r) (runKind ∷ 0 ∷ runBody r) (now (a .block)) (w .write-parts .last .1 .1 .1 .0) (w .write-parts .result)
+    (ap (λ (l : List ℕ). runKind ∷ 0 ∷ l) e) (d .if1 .left) (d .if1 .left, p .0 .1) (w .write-parts .ensures)
 
 pub write-run-spec : {M : Type 1} → statement M
 write-run-spec =
     tie.close
     (tie.spec
     returns
+    (λ c. search needs)
+    (λ c. search needs)
+    (λ c. search needs)
+    (λ c. search needs)
     (λ c κs. search needs)
     (λ c. search needs)
     (λ c. search needs)
+    slice-aggregate-write-parts
     (λ c. search needs)
-    (λ c. search needs)
-    (λ c. search needs)
-    (λ c. search needs)
-    part-lay-run-end
-    lay-run-requires
-    finish-requires
+    (λ c κs. search needs)
     returns-2
-    same-length
+    (λ c. search needs)
     returns-3)

@@ -2,8 +2,8 @@
 use mathlib.Core.Path.{ap}
 use Prim.Native.Nat.{_+_, _-_, _%_}
 use native.Mathlib.Omega.{arith}
-use Rattle.block.specs.Layout.{byte}
-use Rattle.block.proofs.Bytes.{Upto, upto-none, upto-more, upto-all}
+use Rattle.seal.specs.Seal.{byte}
+use Rattle.seal.proofs.Bytes.{Upto, upto-none, upto-more, upto-all}
 use Rattle.book.specs.Entry.{keyLength}
 use Rattle.book.proofs.front.home_of.Statement.{statement}
 use Rattle.book.proofs.front.home_of.Tie as tie

@@ -11,12 +11,15 @@ use Rattle.rules.proofs.Checks.{never-both}
 use Rattle.refusal.specs.Said.{Writes}
 use Rattle.refusal.specs.declared.Checked.{Checked}
 use Rattle.refusal.proofs.Unique.{written}
-use Rattle.piece.specs.Numbers.{runOf, pieceOf}
-use Rattle.block.specs.Layout.{runBodySize, runBody, pieceBody}
-use Rattle.block.specs.Reading.{runBodyAsked, pieceBodyAsked}
-use Rattle.block.proofs.Mid.{mid, part-length}
-use Rattle.block.proofs.PieceLaws.{good-asked}
-use Rattle.block.proofs.Sharp.{sharp-run-body-asked, sharp-piece-body-asked}
+use Rattle.good.specs.Numbers.{runOf, pieceOf}
+use Rattle.block.specs.Layout.{runBodySize, runBody}
+use Rattle.piece_block.specs.Layout.{pieceBody}
+use Rattle.block.specs.Reading.{runBodyAsked}
+use Rattle.piece_block.specs.Reading.{pieceBodyAsked}
+use Rattle.seal.proofs.Replaced.{mid, part-length}
+use Rattle.piece_block.proofs.PieceLaws.{good-asked}
+use Rattle.block.proofs.OneFault.{sharp-run-body-asked}
+use Rattle.piece_block.proofs.OneFault.{sharp-piece-body-asked}
 use Rattle.book.specs.Entry.{kind, pieceAt, pieceLength, codeAt}
 use Rattle.book.proofs.Lay.{headed-length, both-length, begin, begin-bad}
 use Rattle.book.proofs.front.lay.Statement.{statement}
@@ -36,7 +39,7 @@ abbrev part : tie.After-write-run-body → List ℕ
 part c = take runBodySize (drop 2 (set (set (front c) 0 kind) 1 0))
 
 part-long : (c : tie.After-write-run-body) → length (part c) ≡ runBodySize
-part-long c = part-length (set (set (front c) 0 kind) 1 0) 2 runBodySize (simp length-set (omega (arith, ap length (start c .pre .blank))))
+part-long c = part-length (set (set (front c) 0 kind) 1 0) 2 runBodySize (simp length-set (omega (arith, start c .pre .long)))
 
 abbrev bytes : tie.After-write-run-body → List ℕ
 bytes c = c .write-run-body .last .1 .0
@@ -52,14 +55,14 @@ abbrev headed : tie.After-write-run-body → List ℕ
 headed c = mid 2 runBodySize (set (set (front c) 0 kind) 1 0) (bytes c)
 
 headed-long : (c : tie.After-write-run-body) → length (headed c) ≡ codeAt
-headed-long c = headed-length (run c) (front c) (bytes c) (start c .pre .blank) (laid c)
+headed-long c = headed-length (run c) (front c) (bytes c) (start c .pre .long) (laid c)
 
 -- ---- the piece: the place before it is laid, and its part
 abbrev before : tie.After-write-piece-body → tie.After-write-run-body
 before c = c .before .before .before .before
 
 abbrev piece : tie.After-write-piece-body → Piece
-piece c = let a = start (before c) .args in pieceOf (a .band) (now (a .corners))
+piece c = let a = start (before c) .args in pieceOf (a .slab) (now (a .corners))
 
 abbrev part-2 : tie.After-write-piece-body → List ℕ
 part-2 c = take pieceLength (drop pieceAt (headed (before c)))
@@ -79,17 +82,17 @@ told c r e = subst (Writes (pieceBodyAsked (part-2 c) (piece c)) (pieceBody (pie
 
 as-long : (c : tie.After-write-piece-body) → length (mid pieceAt pieceLength (headed (before c)) (body c)) ≡ length (front (before c))
 as-long c =
-    let b = before c in let z = start b .pre .blank in
-    both-length (run b) (front b) (bytes b) z (laid b) (piece c) (body c) (body-long c) ∙ sym (ap length z)
+    let b = before c in let z = start b .pre .long in
+    both-length (run b) (front b) (bytes b) z (laid b) (piece c) (body c) (body-long c) ∙ sym z
 
 slice-write-front : tie.Need-slice-write-front
-slice-write-front c = omega (arith, ap length (c .before .pre .blank))
+slice-write-front c = omega (arith, c .before .pre .long)
 
 slice-write-front-2 : tie.Need-slice-write-front-2
-slice-write-front-2 c = simp length-set (omega (arith, ap length (c .before .pre .blank)))
+slice-write-front-2 c = simp length-set (omega (arith, c .before .pre .long))
 
 part-write-run-body-end : tie.Need-part-write-run-body-end
-part-write-run-body-end c = simp length-set (omega (arith, ap length (c .before .pre .blank)))
+part-write-run-body-end c = simp length-set (omega (arith, c .before .pre .long))
 
 part-write-piece-body-end : tie.Need-part-write-piece-body-end
 part-write-piece-body-end c = omega (arith, headed-long (c .before .before))
@@ -111,7 +114,7 @@ unfolding pieceBodyAsked
 returns-2 c =
     let d = c .before .before .before .before in let b = before d in let t = told d _ (c .enum-told2 .given .1) in let n = length (now (start b .args .corners)) in
     let e : 27 + 2 * n ≡ pieceAt + (11 + 2 * n) = omega arith in
-    begin (run b) (front b) (bytes b) (start b .pre .blank) (laid b) (piece d) (body d) (body-long d) (t .1) (t .0 .1 .0 .most) (27 + 2 * n) e
+    begin (run b) (front b) (bytes b) (start b .pre .long) (laid b) (piece d) (body d) (body-long d) (t .1) (t .0 .1 .0 .most) (27 + 2 * n) e
 
 pub lay-spec : {M : Type 1} → statement M
 lay-spec =

@@ -7,19 +7,10 @@ use borrow.Author.Needs.{needs}
 use lib.ListN.{length}
 use denote.Ref.{now}
 use Rattle.whole.proofs.Decide.{yes, no, decide-by}
-use Rattle.block.specs.Layout.{filled, blockOf}
+use Rattle.seal.specs.Seal.{filled, blockOf}
 use Rattle.book.specs.Entry.{codeAt}
 use Rattle.book.proofs.slot.is_entry.Statement.{statement}
 use Rattle.book.proofs.slot.is_entry.Tie as tie
-
-bytes-of-requires : tie.Need-bytes-of-requires
-bytes-of-requires c κs = search needs
-
-slice-aggregate-is-parts : tie.Need-slice-aggregate-is-parts
-slice-aggregate-is-parts c = search needs
-
-is-parts-requires : tie.Need-is-parts-requires
-is-parts-requires c κs = search needs
 
 returns : tie.Need-returns
 returns c =
@@ -30,4 +21,4 @@ returns c =
 
 pub is-entry-spec : {M : Type 1} → statement M
 is-entry-spec =
-    tie.close (tie.spec bytes-of-requires slice-aggregate-is-parts is-parts-requires returns)
+    tie.close (tie.spec (λ c κs. search needs) (λ c. search needs) (λ c κs. search needs) returns)

@@ -4,7 +4,7 @@ use native.Mathlib.Omega.{arith}
 use borrow.Author.Needs.{needs}
 use lib.ListN.{length-take}
 use denote.Ref.{now}
-use Rattle.block.specs.Layout.{blockOf}
+use Rattle.seal.specs.Seal.{blockOf}
 use Rattle.book.specs.Entry.{four}
 use Rattle.book.specs.Steps.{cleared}
 use Rattle.book.proofs.Slots.{part-put}

@@ -8,7 +8,7 @@ use borrow.Author.Needs.{needs}
 use lib.ListN.{length, length-take}
 use denote.Ref.{now}
 use Rattle.rules.specs.Reach.{Run}
-use Rattle.piece.specs.Numbers.{runOf}
+use Rattle.good.specs.Numbers.{runOf}
 use Rattle.whole.proofs.Decide.{yes, no}
 use Rattle.book.specs.Entry.{codeAt}
 use Rattle.book.specs.Steps.{cleared}

@@ -6,9 +6,9 @@ use native.Mathlib.Omega.{arith}
 use borrow.Author.Needs.{needs}
 use lib.ListN.{length}
 use denote.Ref.{now}
-use Rattle.block.specs.Layout.{filled, blockOf}
-use Rattle.block.specs.Reading.{partsAsked}
-use Rattle.block.proofs.Sharp.{sharp-parts-asked}
+use Rattle.seal.specs.Seal.{filled, blockOf}
+use Rattle.seal.specs.Parts.{partsAsked}
+use Rattle.seal.proofs.OneFault.{sharp-parts-asked}
 use Rattle.refusal.proofs.Unique.{written}
 use Rattle.book.specs.Entry.{codeAt}
 use Rattle.book.proofs.slot.write_entry.Statement.{statement}
@@ -17,8 +17,14 @@ use Rattle.book.proofs.slot.write_entry.Tie as tie
 returns : tie.Need-returns
 unfolding partsAsked
 returns c =
-    let b = c .before .before .before .before .before .before .before .before in let f = now (b .args .first) in let s = now (b .args .slot) in
-    let w = c .before .before .write-parts in let v = c .before .before .before .before .before .bytes-of in let l = v .result in
+    let written-out = c .before .before in
+    let told = written-out .before .before .before in
+    let b = told .before .before .before in
+    let f = now (b .args .first) in
+    let s = now (b .args .slot) in
+    let w = written-out .write-parts in
+    let v = told .bytes-of in
+    let l = v .result in
     written (partsAsked s f l codeAt) (sharp-parts-asked s f l codeAt) (blockOf (filled codeAt f ++ l)) s (w .last .1 .1 .1 .0) (w .result) (w .ensures)
     (b .pre .1, (record { begin = b .pre .0; end = omega (arith, ap length (v .ensures)) }, tt)) .1
     ∙ ap (λ (x : List ℕ). blockOf (filled codeAt f ++ x)) (v .ensures)

@@ -1,4 +1,4 @@
--- `extent::apart` is what it says. Assumes nothing.
+-- `extent::apart` is split in x or in y: the first test decides, or else the second. Assumes nothing.
 use mathlib.Core.Path.{sym, _∙_}
 use borrow.Author.Needs.{needs}
 use Rattle.footprint.proofs.extent.apart.Statement.{statement}

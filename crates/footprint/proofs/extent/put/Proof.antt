@@ -1,4 +1,4 @@
--- `extent::put` puts a range. Assumes nothing.
+-- `extent::put` puts a range: the least and the most of two numbers of 16 bits have 16 bits too, and narrowing keeps them. Assumes nothing.
 use mathlib.Core.Path.{_≡_, _∙_}
 use mir.Facts.{toZ-ofZ}
 use mir.Val.{SFits, toZ, ofZ}

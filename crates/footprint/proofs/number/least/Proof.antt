@@ -1,4 +1,4 @@
--- `number::least` is what it says. Assumes nothing.
+-- `number::least` is least: the words compare as the numbers do, in either branch. Assumes nothing.
 use mir.Facts.{toZ-ofZ}
 use Rattle.footprint.proofs.number.least.Statement.{statement}
 use Rattle.footprint.proofs.number.least.Tie as tie

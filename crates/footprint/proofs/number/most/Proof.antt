@@ -1,4 +1,4 @@
--- `number::most` is what it says. Assumes nothing.
+-- `number::most` is most: the words compare as the numbers do, in either branch. Assumes nothing.
 use mir.Facts.{toZ-ofZ}
 use Rattle.footprint.proofs.number.most.Statement.{statement}
 use Rattle.footprint.proofs.number.most.Tie as tie

@@ -1,4 +1,4 @@
--- `number::ranged` is what it says. Assumes nothing.
+-- `number::ranged` is ranged: the words compare as the numbers do, and where the first test holds the second is the answer. Assumes nothing.
 use mir.Facts.{toZ-ofZ}
 use Rattle.footprint.proofs.number.ranged.Statement.{statement}
 use Rattle.footprint.proofs.number.ranged.Tie as tie

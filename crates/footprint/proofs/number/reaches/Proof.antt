@@ -1,4 +1,4 @@
--- `number::reaches` decides. Assumes nothing.
+-- `number::reaches` decides: the two tests are the two bounds of what is within reach. Assumes nothing.
 use lib.IntN.{pos, negsuc}
 use mir.Facts.{toZ-ofZ}
 use Rattle.rules.proofs.Reach.{between-yes, between-no}

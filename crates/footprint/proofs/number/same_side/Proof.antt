@@ -1,4 +1,4 @@
--- `number::same_side` is what it says. Assumes nothing.
+-- `number::same_side` is sameSide: the seven leaf calls are the definition's parts. Assumes nothing.
 use mir.Facts.{toZ-ofZ}
 use borrow.Author.Needs.{needs}
 use Rattle.footprint.proofs.number.same_side.Statement.{statement}

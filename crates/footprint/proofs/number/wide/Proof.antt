@@ -1,4 +1,4 @@
--- `number::wide` is the number. Assumes nothing.
+-- `number::wide` is the number: what fits 32 bits fits 64, and the cast keeps it. Assumes nothing.
 use mathlib.Core.Path.{_∙_}
 use mir.Facts.{toZ-ofZ, sfits-widen}
 use Rattle.footprint.proofs.number.wide.Statement.{statement}

@@ -1,4 +1,4 @@
--- `ring::around` is what it says. Assumes nothing.
+-- `ring::around` is around: each branch is a case of the definition, by what its test says. Assumes nothing.
 use borrow.Author.Tests.{eq-eqb, ne-eqb}
 use Rattle.footprint.proofs.ring.around.Statement.{statement}
 use Rattle.footprint.proofs.ring.around.Tie as tie

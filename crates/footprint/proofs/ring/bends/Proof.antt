@@ -1,21 +1,12 @@
--- `ring::bends` is what it says. Assumes nothing.
+-- `ring::bends` is bends: each test that decides is a part of the definition, case by case. Assumes nothing.
 use mathlib.Core.Path.{sym, ap, _∙_}
 use mathlib.Core.Bool.{not}
 use borrow.Author.Needs.{needs}
 use Rattle.footprint.proofs.ring.bends.Statement.{statement}
 use Rattle.footprint.proofs.ring.bends.Tie as tie
 
-aside-requires : tie.Need-aside-requires
-aside-requires c κs = search needs
-
 returns : tie.Need-returns
 returns c = rw (sym (c .before .aside .ensures) ∙ c .if1 .taken)
-
-boxes-apart-requires : tie.Need-boxes-apart-requires
-boxes-apart-requires c κs = search needs
-
-boxes-apart-requires-2 : tie.Need-boxes-apart-requires-2
-boxes-apart-requires-2 c κs = search needs
 
 returns-2 : tie.Need-returns-2
 returns-2 c =
@@ -27,4 +18,4 @@ returns-3 c = rw (sym (c .before .before .before .aside .ensures) ∙ c .before 
 
 pub bends-spec : {M : Type 1} → statement M
 bends-spec =
-    tie.close (tie.spec aside-requires returns boxes-apart-requires boxes-apart-requires-2 returns-2 returns-3)
+    tie.close (tie.spec (λ c κs. search needs) returns (λ c κs. search needs) (λ c κs. search needs) returns-2 returns-3)

@@ -1,4 +1,4 @@
--- `ring::boxes_apart` is what it says. Assumes nothing.
+-- `ring::boxes_apart` is boxesApart: parted in x, or else in y, of corners' numbers read back. Assumes nothing.
 use mathlib.Core.Path.{_≡_, sym, _∙_}
 use Rattle.whole.proofs.Range.{read}
 use mir.Syntax.{w64}
@@ -20,8 +20,12 @@ x-parted c =
     let i = k .before in
     c .parted .ensures ∙ rw (read w64 (i .x .ok) (i .x .ensures), read w64 (k .x2 .ok) (k .x2 .ensures), read w64 (j .x3 .ok) (j .x3 .ensures), read w64 (m .x4 .ok) (m .x4 .ensures))
 
+-- the first test, as seen from the second
+abbrev first : tie.After-parted2 → tie.After-parted
+first c = c .before .before .before .before .before .before
+
 y-parted : (c : tie.After-parted2) →
-    let s = c .before .before .before .before .before .before .before .before .before .before .before in
+    let s = first c .before .before .before .before .before in
     let r = ring (s .args .l .now) in
     c .parted2 .result ≡ parted (r .at (s .args .i) .y) (r .at (s .args .k) .y) (r .at (s .args .j) .y) (r .at (s .args .m) .y)
 y-parted c =

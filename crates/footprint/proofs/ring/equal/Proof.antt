@@ -1,4 +1,4 @@
--- `ring::equal` is what it says. Assumes nothing.
+-- `ring::equal` is equal: two ranges of one number each, of corners' numbers read back. Assumes nothing.
 use Rattle.whole.proofs.Range.{read}
 use mir.Syntax.{w64}
 use borrow.Author.Needs.{needs}

@@ -1,4 +1,4 @@
--- `ring::parted` is what it says. Assumes nothing.
+-- `ring::parted` is parted: the least and the most of each pair, read back, and the definition's two tests of them. Assumes nothing.
 use Rattle.whole.proofs.Range.{read}
 use mir.Syntax.{w64}
 use mir.Facts.{toZ-ofZ}

@@ -1,4 +1,4 @@
--- `ring::turn` is the side of three corners. Assumes nothing.
+-- `ring::turn` is the side of three corners: their numbers are read back, and each value on the way fits. Assumes nothing.
 use mathlib.Core.Path.{_≡_}
 use borrow.Author.Needs.{needs}
 use mir.Facts.{toZ-ofZ}

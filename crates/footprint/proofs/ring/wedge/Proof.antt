@@ -1,4 +1,4 @@
--- `ring::wedge` is the cross product of two corners. Assumes nothing.
+-- `ring::wedge` is the cross product of two corners: their numbers are read back, and each value on the way fits. Assumes nothing.
 use mathlib.Core.Path.{_≡_}
 use borrow.Author.Needs.{needs}
 use mir.Facts.{toZ-ofZ}
@@ -34,20 +34,8 @@ i-y c = read w64 (c .y2 .ok) (c .y2 .ensures)
 k-x : (c : tie.After-x2) → toZ w64 (ofZ w64 (c .x2 .result)) ≡ K (c .before .before .before .before) .x
 k-x c = read w64 (c .x2 .ok) (c .x2 .ensures)
 
-x-requires : tie.Need-x-requires
-x-requires c κs = search needs
-
-y-requires : tie.Need-y-requires
-y-requires c κs = search needs
-
 mul-result : tie.Need-mul-result
 mul-result c = rw (i-x (c .before), k-y c) (steps (c .before .before) .first)
-
-y-requires-2 : tie.Need-y-requires-2
-y-requires-2 c κs = search needs
-
-x-requires-2 : tie.Need-x-requires-2
-x-requires-2 c κs = search needs
 
 mul-result-2 : tie.Need-mul-result-2
 mul-result-2 c = rw (i-y (c .before), k-x c) (steps (c .before .before .before .before) .second)
@@ -65,4 +53,4 @@ returns c =
     rw (i-x (b .before), k-y b, i-y (c .before), k-x c, toZ-ofZ (s .first), toZ-ofZ (s .second)) (toZ-ofZ (s .all))
 
 pub wedge-spec : {M : Type 1} → statement M
-wedge-spec = tie.close (tie.spec x-requires y-requires mul-result y-requires-2 x-requires-2 mul-result-2 sub-result returns)
+wedge-spec = tie.close (tie.spec (λ c κs. search needs) (λ c κs. search needs) mul-result (λ c κs. search needs) (λ c κs. search needs) mul-result-2 sub-result returns)

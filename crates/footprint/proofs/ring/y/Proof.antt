@@ -1,4 +1,4 @@
--- `ring::y` reads a corner's number. Assumes nothing.
+-- `ring::y` reads a corner's number: an element of the list, made wide and read back. Assumes nothing.
 use mathlib.Core.Path.{_∙_}
 use borrow.Author.Needs.{needs}
 use mir.Syntax.{w32, w64}
@@ -6,23 +6,8 @@ use Rattle.whole.proofs.Range.{read, field}
 use Rattle.footprint.proofs.ring.y.Statement.{statement}
 use Rattle.footprint.proofs.ring.y.Tie as tie
 
-mul-wide : tie.Need-mul-wide
-mul-wide c = search needs
-
-add-wide : tie.Need-add-wide
-add-wide c = search needs
-
-mul-wide-2 : tie.Need-mul-wide-2
-mul-wide-2 c = search needs
-
-shared-slice-copy-out-wide : tie.Need-shared-slice-copy-out-wide
-shared-slice-copy-out-wide c = search needs
-
-wide-requires : tie.Need-wide-requires
-wide-requires c κs = search needs
-
 returns : tie.Need-returns
 returns c = read w64 (c .wide .ok) (c .wide .ensures ∙ field w32 _ (c .before .wide-arg .given))
 
 pub y-spec : {M : Type 1} → statement M
-y-spec = tie.close (tie.spec mul-wide add-wide mul-wide-2 shared-slice-copy-out-wide wide-requires returns)
+y-spec = tie.close (tie.spec (λ c. search needs) (λ c. search needs) (λ c. search needs) (λ c. search needs) (λ c κs. search needs) returns)

@@ -1,12 +1,12 @@
--- `obj::face::fit_both` meets its contract. Assumes nothing.
+-- `obj::face::fit_both` meets its contract: a fault of x is the first, and where x has none y is looked at. Assumes nothing.
 use mathlib.Core.Path.{_≡_, _∙_}
 use mir.Facts.{toZ-ofZ}
 use Rattle.rules.proofs.Checks.{fault-left}
 use Rattle.refusal.specs.Said.{Finds}
 use Rattle.refusal.proofs.Finds.{finds-right, found-good, found-bad}
-use Rattle.obj.specs.Line.{Point}
+use Rattle.line.specs.Line.{Point}
 use Rattle.obj.specs.File.{decimalChecks}
-use Rattle.obj.specs.Steps.{entry}
+use Rattle.line.specs.Calls.{entry}
 use Rattle.obj.proofs.face.fit_both.Statement.{statement}
 use Rattle.obj.proofs.face.fit_both.Tie as tie
 

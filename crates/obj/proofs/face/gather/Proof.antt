@@ -2,7 +2,6 @@
 use mathlib.Core.Path.{_≡_, sym, subst, _∙_}
 use Prim.Native.Nat.{ℕ, _+_, _*_, _-_, _≤_, _<_}
 use native.Mathlib.Omega.{arith}
-use native.Mathlib.Nat.{lt-trans}
 use denote.Ref.{now}
 use mathlib.Core.List.{List}
 use lib.IntN.{ℤ, pos}
@@ -10,6 +9,7 @@ use lib.ListN.{length, getD}
 use mir.Syntax.{w32}
 use mir.Val.{toZ, ofZ}
 use Rattle.whole.proofs.Range.{field}
+use Rattle.line.proofs.Words.{within-is}
 use Rattle.obj.specs.Steps.{FitBoth}
 use Rattle.obj.proofs.Table.{Places, places, x-within}
 use Rattle.obj.proofs.Gather.{Gathering, gather-start, corner-below, gather-fault, gather-next, gather-end}
@@ -17,58 +17,43 @@ use Rattle.obj.proofs.face.gather.Statement.{statement}
 use Rattle.obj.proofs.face.gather.Tie as tie
 
 abbrev Inv-loop : tie.InvT-loop
-Inv-loop line above table numbers₀ from₀ to₀ i₀ numbers from to i = Gathering line above table numbers from to i
+Inv-loop line above table numbers₀ from₀ to₀ v₀ i₀ numbers from to v i = Gathering line above table numbers from to v i
 
 abbrev μ-loop : tie.MeasureT-loop
-μ-loop line above table numbers₀ from₀ to₀ i₀ numbers from to i = length line - from
+μ-loop line above table numbers₀ from₀ to₀ v₀ i₀ numbers from to v i = length line - from
 
-word-requires : tie.Need-word-requires Inv-loop μ-loop
-word-requires c κs = omega arith
+next-corner-requires : tie.Need-next-corner-requires Inv-loop μ-loop
+next-corner-requires c κs = tt
 
-word-requires-2 : tie.Need-word-requires-2 Inv-loop μ-loop
-word-requires-2 c κs = c .word .ensures .below
+next-corner-requires-2 : tie.Need-next-corner-requires-2 Inv-loop μ-loop
+next-corner-requires-2 c κs = tt
 
 loop-holds : tie.Need-loop-holds Inv-loop μ-loop
-loop-holds c = gather-start _ _ _ _ _ _ (c .before .before .before .pre) (c .before .word .ensures) (c .word2 .ensures)
-
-sub-corner : tie.Need-sub-corner Inv-loop μ-loop
-sub-corner c = c .before .loop .inv .order
-
-part-corner-start : tie.Need-part-corner-start Inv-loop μ-loop
-part-corner-start c = c .before .loop .inv .order
-
-part-corner-end : tie.Need-part-corner-end Inv-loop μ-loop
-part-corner-end c = c .before .loop .inv .below
-
-corner-requires : tie.Need-corner-requires Inv-loop μ-loop
-corner-requires c κs = c .before .before .loop .inv .few
+loop-holds c = gather-start _ _ _ _ _ _ (c .before .before .before .pre) (c .before .next-corner .ensures) (c .next-corner2 .ensures)
 
 inside : (k v n : ℕ) → v < k → 2 * k ≤ n → 2 * v + 1 < n
 inside k v n h g = omega arith
 
 -- the corner at hand names a vertex of the table
-module _ (c : tie.After-corner Inv-loop μ-loop) where
-  abbrev turn : tie.In-loop Inv-loop μ-loop
-  turn = c .before .before
-
+module _ (c : tie.In-loop Inv-loop μ-loop) where
   abbrev start : tie.Start Inv-loop μ-loop
-  start = turn .before .before .before .before .before
+  start = c .before .before .before .before .before
 
   abbrev table : List ℤ
   table = now (start .args .table)
 
   abbrev v : ℕ
-  v = c .corner .result
+  v = c .before .loop .v
 
   below : v < start .args .above
-  below = corner-below _ _ _ _ _ _ _ (turn .before .loop .inv) (turn .loop-test .taken) v (c .corner .ensures)
+  below = corner-below _ _ _ _ _ _ _ _ (c .before .loop .inv) (c .loop-test .taken)
 
   -- its two places
   fit : Places v
-  fit = places v (lt-trans below (turn .before .loop .inv .few))
+  fit = places v (let h = below in omega arith)
 
   within : 2 * v + 1 < length table
-  within = inside (start .args .above) v (length table) below (turn .before .loop .inv .fits)
+  within = inside (start .args .above) v (length table) below (c .before .loop .inv .fits)
 
 mul-x : tie.Need-mul-x Inv-loop μ-loop
 mul-x c = fit c .x
@@ -96,7 +81,7 @@ fit-both-requires c κs = tt
 
 -- its numbers are the table's
 module _ (c : tie.After-fit-both Inv-loop μ-loop) where
-  abbrev d : tie.After-corner Inv-loop μ-loop
+  abbrev d : tie.In-loop Inv-loop μ-loop
   d = c .before .before .before
 
   abbrev x : ℤ
@@ -115,45 +100,46 @@ enum-known-r : tie.Need-enum-known-r Inv-loop μ-loop
 enum-known-r c = c .match .keys1
 
 same-length : tie.Need-same-length Inv-loop μ-loop
-same-length c = let e = d (c .before .before .before) in turn e .before .loop .inv .size ∙ sym (start e .pre .size)
+same-length c = let e = d (c .before .before .before) in e .before .loop .inv .size ∙ sym (start e .pre .size)
 
 returns : tie.Need-returns Inv-loop μ-loop
 returns c =
     let k = c .before .before .before in let e = d k in let r = c .before .r .given in
-    gather-fault _ _ _ _ _ _ _ (turn e .before .loop .inv) (turn e .loop-test .taken) (v e) (e .corner .ensures) _ _ (x-is k) (y-is k) (r .0 .0)
+    gather-fault _ _ _ _ _ _ _ _ (e .before .loop .inv) (e .loop-test .taken) _ _ (x-is k) (y-is k) (r .0 .0)
     (subst (FitBoth _ _ _) (r .1) (k .fit-both .ensures))
 
 enum-told : tie.Need-enum-told Inv-loop μ-loop
 enum-told c = c .match .keys2
 
 keep-requires : tie.Need-keep-requires Inv-loop μ-loop
-keep-requires c κs = turn (d (c .before .before .before)) .before .loop .inv .size
+keep-requires c κs = d (c .before .before .before) .before .loop .inv .size
 
-word-requires-3 : tie.Need-word-requires-3 Inv-loop μ-loop
-word-requires-3 c κs = turn (d (c .before .before .before .before .before)) .before .loop .inv .below
+next-corner-requires-3 : tie.Need-next-corner-requires-3 Inv-loop μ-loop
+next-corner-requires-3 c κs = tt
 
 add-i : tie.Need-add-i Inv-loop μ-loop
 add-i c = omega arith
 
 loop-less : tie.Need-loop-less Inv-loop μ-loop
 loop-less c =
-    let i = turn (d (c .before .before .before .before .before .before)) in
-    let h = i .before .loop .inv .some (i .loop-test .taken) in
-    let u = c .word3 .ensures .above in
-    omega arith
+    let i = d (c .before .before .before .before .before .before) in
+    let l = i .before .loop .inv in
+    let h = l .some (i .loop-test .taken) in
+    let u = c .next-corner3 .ensures .word .begins .above in
+    omega (arith, within-is (now (start i .args .line)) (i .before .loop .to) (l .below))
 
 loop-again : tie.Need-loop-again Inv-loop μ-loop
 loop-again c =
     let k = c .before .before .before .before .before .before in let e = d k in
     rw (c .before .before .keep .ensures)
-    (gather-next _ _ _ _ _ _ _ (turn e .before .loop .inv) (turn e .loop-test .taken) (v e) (e .corner .ensures) _ _ (x-is k) (y-is k) _ (c .word3 .ensures)
+    (gather-next _ _ _ _ _ _ _ _ (e .before .loop .inv) (e .loop-test .taken) _ _ (x-is k) (y-is k) _ (c .next-corner3 .ensures)
     (subst (FitBoth _ _ _) (c .before .before .before .before .enum-told .given .1) (k .fit-both .ensures)))
 
 same-length-2 : tie.Need-same-length-2 Inv-loop μ-loop
 same-length-2 c = c .before .loop .inv .size ∙ sym (c .before .before .before .before .before .pre .size)
 
 returns-2 : tie.Need-returns-2 Inv-loop μ-loop
-returns-2 c = gather-end _ _ _ _ _ _ _ (c .before .loop .inv) (c .loop-test .left)
+returns-2 c = gather-end _ _ _ _ _ _ _ _ (c .before .loop .inv) (c .loop-test .left)
 
 pub gather-spec : {M : Type 1} → statement M
 gather-spec =
@@ -161,13 +147,9 @@ gather-spec =
     (tie.spec
     Inv-loop
     μ-loop
-    word-requires
-    word-requires-2
+    next-corner-requires
+    next-corner-requires-2
     loop-holds
-    sub-corner
-    part-corner-start
-    part-corner-end
-    corner-requires
     mul-x
     mul-x-2
     shared-slice-copy-out-x
@@ -181,7 +163,7 @@ gather-spec =
     returns
     enum-told
     keep-requires
-    word-requires-3
+    next-corner-requires-3
     add-i
     loop-less
     loop-again

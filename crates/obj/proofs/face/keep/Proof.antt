@@ -1,4 +1,4 @@
--- `obj::face::keep` meets its contract. Assumes nothing.
+-- `obj::face::keep` meets its contract: each of the first 64 corners has both its places in the list, and any other changes nothing. Assumes nothing.
 use native.Mathlib.Omega.{arith}
 use borrow.Author.Tests.{lt-ltb, le-ltb}
 use lib.ListN.{length-set}

@@ -19,11 +19,11 @@ abbrev μ-loop : tie.MeasureT-loop
 loop-holds : tie.Need-loop-holds Inv-loop μ-loop
 loop-holds c = under-start _ _ (c .before .pre .1)
 
-until-requires : tie.Need-until-requires Inv-loop μ-loop
-until-requires c κs = omega arith
+feed-requires : tie.Need-feed-requires Inv-loop μ-loop
+feed-requires c κs = omega arith
 
 line-end-requires : tie.Need-line-end-requires Inv-loop μ-loop
-line-end-requires c κs = (c .until .ensures .above, c .until .ensures .below)
+line-end-requires c κs = (c .feed .ensures .above, c .feed .ensures .below)
 
 -- the line at hand: where it stops, where its feed stands, and what is known before it
 module _ (c : tie.After-line-end Inv-loop μ-loop) where
@@ -31,7 +31,7 @@ module _ (c : tie.After-line-end Inv-loop μ-loop) where
   stop = c .line-end .result
 
   abbrev end : ℕ
-  end = c .before .until .result
+  end = c .before .feed .result
 
   abbrev turn : tie.In-loop Inv-loop μ-loop
   turn = c .before .before
@@ -39,10 +39,17 @@ module _ (c : tie.After-line-end Inv-loop μ-loop) where
 step-requires : tie.Need-step-requires Inv-loop μ-loop
 step-requires c κs =
     let e = c .before in let b = turn e .before in let l = e .line-end .ensures in
-    under-ready _ _ _ _ _ (b .loop .inv) (end e) (stop e) (turn e .loop-test .taken) (e .before .until .ensures) (b .before .before .pre .0) (l .0) (l .1) (l .2)
+    under-ready _ _ _ _ _ (b .loop .inv) (end e) (stop e) (turn e .loop-test .taken) (e .before .feed .ensures) (b .before .before .pre .0) (l .0) (l .1) (l .2)
+
+-- the line at hand as seen from its step; and the step as seen from what is known next
+abbrev ended : tie.After-step Inv-loop μ-loop → tie.After-line-end Inv-loop μ-loop
+ended c = c .before .before
+
+abbrev taken : tie.After-known-told2 Inv-loop μ-loop → tie.After-step Inv-loop μ-loop
+taken c = c .before .before .before .before
 
 -- what the step found, where its answer is known
-stepped : (c : tie.After-step Inv-loop μ-loop) {x : Stepped} → c .step .result ≡ x → let e = c .before .before in let b = turn e .before in
+stepped : (c : tie.After-step Inv-loop μ-loop) {x : Stepped} → c .step .result ≡ x → let e = ended c in let b = turn e .before in
     Stepping (now (b .before .before .args .file)) (stop e) (b .loop .line) (c .step .last .1 .1 .1 .1 .1 .0) x
 stepped c q = subst (Stepping _ _ _ _) q (c .step .ensures .0)
 
@@ -54,25 +61,25 @@ same-length c = omega arith
 
 returns : tie.Need-returns Inv-loop μ-loop
 returns c =
-    let s = c .before .before .before .before in let e = s .before .before in
-    under-fault _ _ _ _ _ (turn e .before .loop .inv) (end e) (stop e) (turn e .loop-test .taken) (e .before .until .ensures) _ (stepped s (c .before .x .given .1))
+    let s = c .before .before .before .before in let e = ended s in
+    under-fault _ _ _ _ _ (turn e .before .loop .inv) (end e) (stop e) (turn e .loop-test .taken) (e .before .feed .ensures) _ (stepped s (c .before .x .given .1))
 
 enum-known-s : tie.Need-enum-known-s Inv-loop μ-loop
 enum-known-s c = c .match .keys2
 
 add-at : tie.Need-add-at Inv-loop μ-loop
-add-at c = let t = c .before .before .before .before .before .before .before in let b = t .until .ensures .below in omega arith
+add-at c = let t = ended (taken c) .before in let b = t .feed .ensures .below in omega arith
 
 add-line : tie.Need-add-line Inv-loop μ-loop
-add-line c = let b = c .before .before .before .before .before .before .before .before .before in let n = b .loop .inv .number in omega arith
+add-line c = let b = turn (ended (taken c)) .before in let n = b .loop .inv .number in omega arith
 
 loop-less : tie.Need-loop-less Inv-loop μ-loop
-loop-less c = let t = c .before .before .before .before .before .before .before in let a = t .until .ensures .above in let b = t .until .ensures .below in omega arith
+loop-less c = let t = ended (taken c) .before in let a = t .feed .ensures .above in let b = t .feed .ensures .below in omega arith
 
 loop-again : tie.Need-loop-again Inv-loop μ-loop
 loop-again c =
-    let s = c .before .before .before .before in let e = s .before .before in let r = c .before .s .given in
-    under-next _ _ _ _ _ (turn e .before .loop .inv) (end e) (stop e) (turn e .loop-test .taken) (e .before .until .ensures) _ (r .0 .0)
+    let s = taken c in let e = ended s in let r = c .before .s .given in
+    under-next _ _ _ _ _ (turn e .before .loop .inv) (end e) (stop e) (turn e .loop-test .taken) (e .before .feed .ensures) _ (r .0 .0)
     (e .line-end .ensures .1) (s .step .ensures .1) (stepped s (r .1))
 
 same-length-2 : tie.Need-same-length-2 Inv-loop μ-loop
@@ -88,7 +95,7 @@ scan-spec =
     Inv-loop
     μ-loop
     loop-holds
-    until-requires
+    feed-requires
     line-end-requires
     step-requires
     enum-known-x

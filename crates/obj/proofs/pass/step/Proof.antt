@@ -11,11 +11,11 @@ use lib.ListN.{length, length-set}
 use mir.Syntax.{w32, w64}
 use mir.Val.{Fits}
 use Rattle.whole.proofs.Range.{field}
-use Rattle.obj.specs.Line.{Point, Line, passed, vertex, face, lineOf}
-use Rattle.obj.specs.File.{lineAt, allNamed}
-use Rattle.obj.specs.Steps.{entry, saidOf}
-use Rattle.obj.proofs.Told.{no}
-use Rattle.obj.proofs.Says.{said-passed, said-other, said-vertex, said-face}
+use Rattle.line.specs.Line.{Point, Line, passed, vertex, face, lineOf, allNamed}
+use Rattle.obj.specs.File.{lineAt}
+use Rattle.line.specs.Calls.{entry, saidOf}
+use Rattle.line.proofs.Told.{no}
+use Rattle.line.proofs.Says.{said-passed, said-other, said-vertex, said-face}
 use Rattle.obj.proofs.Table.{Places, places, x-within}
 use Rattle.obj.proofs.Seen.{plain-passes, passed-holds, vertex-holds, vertex-room, face-passes, face-holds, other-fault, second-fault, unnamed-fault, none-seen, face-seen}
 use Rattle.obj.proofs.pass.step.Statement.{statement}
@@ -47,8 +47,11 @@ part-read-line-start c = c .before .pre .order
 part-read-line-end : tie.Need-part-read-line-end
 part-read-line-end c = c .before .pre .below
 
+cast-read-line : tie.Need-cast-read-line
+cast-read-line c = let h = few (c .before .before) in omega arith
+
 read-line-requires : tie.Need-read-line-requires
-read-line-requires c κs = few (c .before .before)
+read-line-requires c κs = tt
 
 -- what the line of this number says
 line-says : (c : tie.After-read-line) → let s = c .before .before .before in c .read-line .result ≡ saidOf (vertices s) (line s)
@@ -87,8 +90,8 @@ enum-told c = c .match .keys1
 enum-told-2 : tie.Need-enum-told-2
 enum-told-2 c = c .match .keys2
 
-add-t17 : tie.Need-add-t17
-add-t17 c = line-fits (c .before .before .before .before .before)
+add-t18 : tie.Need-add-t18
+add-t18 c = line-fits (c .before .before .before .before .before)
 
 enum-known-said : tie.Need-enum-known-said
 enum-known-said c = c .match .keys3
@@ -114,22 +117,22 @@ mul-y-2 c = fit c .y-byte
 slice-set-from-y : tie.Need-slice-set-from-y
 slice-set-from-y c = simp length-set (room c .1)
 
-add-t19 : tie.Need-add-t19
-add-t19 c = more-fits (start c)
+add-t20 : tie.Need-add-t20
+add-t20 c = more-fits (start c)
 
 enum-known-said-2 : tie.Need-enum-known-said-2
 enum-known-said-2 c = c .match .keys4
 
-add-t26 : tie.Need-add-t26
-add-t26 c = line-fits (face-start (c .before))
+add-t27 : tie.Need-add-t27
+add-t27 c = line-fits (face-start (c .before))
 
 returns : tie.Need-returns
 returns c =
     let s = face-start (c .before) in let f = face-in (c .before) in
     (rw (add-one (s .args .line)) (second-fault _ _ _ _ (s .pre .holds) (f .0) (f .1) (face-seen _ _ _ _ _ (c .if1 .taken) (s .pre .holds .face))), refl)
 
-add-t28 : tie.Need-add-t28
-add-t28 c = line-fits (face-start (c .before .before))
+add-t29 : tie.Need-add-t29
+add-t29 c = line-fits (face-start (c .before .before))
 
 returns-2 : tie.Need-returns-2
 returns-2 c =
@@ -188,10 +191,11 @@ step-spec =
     sub-read-line
     part-read-line-start
     part-read-line-end
+    cast-read-line
     read-line-requires
     enum-told
     enum-told-2
-    add-t17
+    add-t18
     enum-known-said
     mul-x
     mul-x-2
@@ -200,11 +204,11 @@ step-spec =
     add-y
     mul-y-2
     slice-set-from-y
-    add-t19
+    add-t20
     enum-known-said-2
-    add-t26
+    add-t27
     returns
-    add-t28
+    add-t29
     returns-2
     returns-3
     returns-4

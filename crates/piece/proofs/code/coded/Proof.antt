@@ -1,4 +1,4 @@
--- `code::coded` meets its contract. Assumes nothing.
+-- `code::coded` meets its contract: each case of the match is a case of the definition. Assumes nothing.
 use mathlib.Core.Path.{sym, ap}
 use borrow.Author.Needs.{needs}
 use Rattle.piece.specs.Tells.{codedOf}

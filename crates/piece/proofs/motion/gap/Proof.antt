@@ -1,4 +1,4 @@
--- `motion::gap` is the difference. Assumes nothing.
+-- `motion::gap` is the difference: both numbers and their difference fit the wider word. Assumes nothing.
 use mathlib.Core.Path.{_≡_, _∙_}
 use mir.Facts.{toZ-ofZ, sfits-widen}
 use mir.Syntax.{w32, w64}

@@ -1,4 +1,4 @@
--- `motion::motion_of` is the point and its motion. Assumes nothing.
+-- `motion::motion_of` is the point and its motion: four numbers, each read back from its call. Assumes nothing.
 use mathlib.Core.Path.{_∙_}
 use borrow.Author.Needs.{needs}
 use mir.Syntax.{w64}
@@ -7,27 +7,25 @@ use Rattle.decide.proofs.Share.{pt-eq}
 use Rattle.piece.proofs.motion.motion_of.Statement.{statement}
 use Rattle.piece.proofs.motion.motion_of.Tie as tie
 
-wide-requires : tie.Need-wide-requires
-wide-requires c κs = search needs
+-- each number's call, as seen from the next one's
+abbrev at-x : tie.After-wide2 → tie.After-wide
+at-x c = c .before .before
 
-wide-requires-2 : tie.Need-wide-requires-2
-wide-requires-2 c κs = search needs
+abbrev at-y : tie.After-gap → tie.After-wide2
+at-y c = c .before .before .before
 
-gap-requires : tie.Need-gap-requires
-gap-requires c κs = search needs
-
-gap-requires-2 : tie.Need-gap-requires-2
-gap-requires-2 c κs = search needs
+abbrev at-u : tie.After-gap2 → tie.After-gap
+at-u c = c .before .before .before
 
 returns : tie.Need-returns
 returns c =
-    let x = c .before .before .before .before .before .before .before .before .wide in
-    let y = c .before .before .before .before .before .before .wide2 in
-    let u = c .before .before .before .gap in
+    let x = at-x (at-y (at-u c)) .wide in
+    let y = at-y (at-u c) .wide2 in
+    let u = at-u c .gap in
     let v = c .gap2 in (
       pt-eq _ _ (read w64 (x .ok) (x .ensures ∙ search needs)) (read w64 (y .ok) (y .ensures ∙ search needs)),
       pt-eq _ _ (read w64 (u .ok) (u .ensures ∙ search needs)) (read w64 (v .ok) (v .ensures ∙ search needs)),
     )
 
 pub motion-of-spec : {M : Type 1} → statement M
-motion-of-spec = tie.close (tie.spec wide-requires wide-requires-2 gap-requires gap-requires-2 returns)
+motion-of-spec = tie.close (tie.spec (λ c κs. search needs) (λ c κs. search needs) (λ c κs. search needs) (λ c κs. search needs) returns)

@@ -1,4 +1,4 @@
--- `motion::on_line` is onLine. Assumes nothing.
+-- `motion::on_line` is onLine: clipped by the side and its swing, and again with both turned, which fit. Assumes nothing.
 use mathlib.Core.Path.{_≡_, sym, subst, ap, _∙_}
 use native.Mathlib.Omega.{arith}
 use Prim.Native.Nat.{_≤_}

@@ -1,4 +1,4 @@
--- `motion::touch` is touch. Assumes nothing.
+-- `motion::touch` is touch: both ends on one side, a moment on the edge, or none, case by case. Assumes nothing.
 use mathlib.Core.Path.{_≡_, sym, subst, ap, _∙_}
 use borrow.Author.Needs.{needs}
 use mir.Facts.{toZ-ofZ}
@@ -18,14 +18,8 @@ aside c =
     let b = c .before in
     rw (toZ-ofZ (b .fits .c), toZ-ofZ (b .fits .d), b .pre .1 .0, b .pre .1 .1) at (c .same-side .ensures)
 
-same-side-requires : tie.Need-same-side-requires
-same-side-requires c κs = search needs
-
 returns : tie.Need-returns
 returns c = touch-aside _ _ _ _ _ (sym (aside (c .before)) ∙ c .if1 .taken)
-
-on-edge-requires : tie.Need-on-edge-requires
-on-edge-requires c κs = search needs
 
 -- the span on the edge
 small : (c : tie.After-on-edge) → Small (spanOf (c .on-edge .result))
@@ -49,4 +43,4 @@ returns-3 c =
     touch-none _ _ _ _ _ (sym (aside (d .before .before)) ∙ d .before .if1 .left) (sym (ap decide.some (d .on-edge .ensures)) ∙ (sym (c .before .some .ensures) ∙ c .if2 .left))
 
 pub touch-spec : {M : Type 1} → statement M
-touch-spec = tie.close (tie.spec same-side-requires returns on-edge-requires some-requires first-requires returns-2 returns-3)
+touch-spec = tie.close (tie.spec (λ c κs. search needs) returns (λ c κs. search needs) some-requires first-requires returns-2 returns-3)

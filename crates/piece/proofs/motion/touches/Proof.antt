@@ -1,4 +1,4 @@
--- `motion::touches` is touches over all edges. Assumes nothing.
+-- `motion::touches` is touches over all edges: `best` is that of the edges passed, and corner i is carried with its side. Assumes nothing.
 use mathlib.Core.List.{List}
 use mathlib.Core.Path.{_≡_, refl, sym, subst, _∙_}
 use Prim.Native.Nat.{ℕ, _+_, _*_, _/_, _≤_, _<_, _-_, min}
@@ -16,7 +16,7 @@ use Rattle.footprint.proofs.Back.{around-next}
 use Rattle.piece.specs.declared.motion.Motion.{Motion}
 use Rattle.piece.specs.declared.span.Span.{Span}
 use Rattle.piece.specs.Moving.{spanOf}
-use Rattle.piece.specs.Place.{pt}
+use Rattle.good.specs.Numbers.{pt}
 use Rattle.footprint.specs.Steps.{CrossSteps}
 use Rattle.piece.specs.Touch.{startOf, speedOf, Close, Ready, Standing}
 use Rattle.footprint.proofs.Steps.{reach-abs}
@@ -39,6 +39,16 @@ Inv-loop l m s n best₀ ax₀ ay₀ c₀ i₀ best ax ay c i = Kept l m s n bes
 
 abbrev μ-loop : tie.MeasureT-loop
 μ-loop l m s n best₀ ax₀ ay₀ c₀ i₀ best ax ay c i = n - i
+
+-- where the function began, as seen from the loop's head; and a turn's beginning and the head, as seen from its edge
+abbrev start : tie.At-loop Inv-loop μ-loop → tie.Start Inv-loop μ-loop
+start c = c .before .before .before .before
+
+abbrev turn : tie.After-across2 Inv-loop μ-loop → tie.In-loop Inv-loop μ-loop
+turn c = c .before .before .before .before
+
+abbrev head : tie.After-across2 Inv-loop μ-loop → tie.At-loop Inv-loop μ-loop
+head c = turn c .before
 
 corner-is : (l : List ℤ) (i : ℕ) (x y : ℤ) → x ≡ ring l .at i .x → y ≡ ring l .at i .y → pt x y ≡ ring l .at i
 corner-is l i x y e f = rw (e, f)
@@ -82,23 +92,23 @@ unfolding touches
 loop-holds c = record { bound = omega arith; first = refl; here = λ h. record { corner = corner-0 (c .before); side = read w64 (c .across .ok) (c .across .ensures) } }
 
 add-around : tie.Need-add-around Inv-loop μ-loop
-add-around c = let h = c .loop-test .taken in let g = c .before .before .before .before .before .good .0 in omega (arith, h, g)
+add-around c = let h = c .loop-test .taken in let g = start (c .before) .good .0 in omega (arith, h, g)
 
 around-requires : tie.Need-around-requires Inv-loop μ-loop
 around-requires c κs = tt
 
 -- the next corner's number
-next-is : (c : tie.After-around Inv-loop μ-loop) → c .around .result ≡ next (ring (c .before .before .before .before .before .before .args .l .now) .size) (c .before .before .loop .i)
+next-is : (c : tie.After-around Inv-loop μ-loop) → c .around .result ≡ next (ring (start (c .before .before) .args .l .now) .size) (c .before .before .loop .i)
 next-is c = c .around .ensures ∙ around-next _ _
 
-below : (c : tie.After-around Inv-loop μ-loop) → c .around .result < length (c .before .before .before .before .before .before .args .l .now) / 2
+below : (c : tie.After-around Inv-loop μ-loop) → c .around .result < length (start (c .before .before) .args .l .now) / 2
 below c = rw (next-is c) (next-below _ _ (c .before .loop-test .taken))
 
-short : (c : tie.After-around Inv-loop μ-loop) → 2 * c .around .result + 1 < length (c .before .before .before .before .before .before .args .l .now)
+short : (c : tie.After-around Inv-loop μ-loop) → 2 * c .around .result + 1 < length (start (c .before .before) .args .l .now)
 short c = omega (arith, below c)
 
 mul-at : tie.Need-mul-at Inv-loop μ-loop
-mul-at c = let g = c .before .before .before .before .before .before .good .0 in omega (arith, short c, g)
+mul-at c = let g = start (c .before .before) .good .0 in omega (arith, short c, g)
 
 at-requires-3 : tie.Need-at-requires-3 Inv-loop μ-loop
 at-requires-3 c κs = omega (arith, short c)
@@ -107,65 +117,66 @@ mul-at-2 : tie.Need-mul-at-2 Inv-loop μ-loop
 mul-at-2 c = mul-at (c .before)
 
 add-at : tie.Need-add-at Inv-loop μ-loop
-add-at c = let g = c .before .before .before .before .before .before .before .good .0 in omega (arith, short (c .before), g)
+add-at c = let g = start (c .before .before .before) .good .0 in omega (arith, short (c .before), g)
 
 at-requires-4 : tie.Need-at-requires-4 Inv-loop μ-loop
 at-requires-4 c κs = short (c .before)
 
 corner-next : (c : tie.After-at4 Inv-loop μ-loop) →
-    let l = c .before .before .before .before .before .before .before .before .args .l .now in
-    pt (toZ w64 (ofZ w64 (c .before .at3 .result))) (toZ w64 (ofZ w64 (c .at4 .result))) ≡ ring l .at (next (ring l .size) (c .before .before .before .before .loop .i))
+    let g = c .before .before .before .before in
+    let l = start g .args .l .now in
+    pt (toZ w64 (ofZ w64 (c .before .at3 .result))) (toZ w64 (ofZ w64 (c .at4 .result))) ≡ ring l .at (next (ring l .size) (g .loop .i))
 corner-next c =
     let a = c .before .before in
-    let l = a .before .before .before .before .before .before .args .l .now in
+    let l = start (a .before .before) .args .l .now in
     rw (← next-is a) (corner-is l (a .around .result) _ _ (read w64 (c .before .at3 .ok) (c .before .at3 .ensures)) (read w64 (c .at4 .ok) (c .at4 .ensures)))
 
 across-requires-2 : tie.Need-across-requires-2 Inv-loop μ-loop
 across-requires-2 c κs =
-    let b = c .before .before .before .before .before .before .before .before in
+    let b = start (c .before .before .before .before) in
     crossed (b .args .l .now) (b .args .m) (b .args .s) (b .pre) _ _ _ (next-below _ _ (c .before .before .before .loop-test .taken)) (corner-next c)
 
 -- the edge's two ends
 at-from : (c : tie.After-across2 Inv-loop μ-loop) →
-    let g = c .before .before .before .before .before in
-    let b = g .before .before .before .before in
+    let g = head c in
+    let b = start g in
     At (b .args .l .now) (b .args .m) (g .loop .i) (toZ w64 (g .loop .ax)) (toZ w64 (g .loop .ay)) (toZ w64 (g .loop .c))
-at-from c = c .before .before .before .before .before .loop .inv .here (c .before .before .before .before .loop-test .taken)
+at-from c = head c .loop .inv .here (turn c .loop-test .taken)
 
 at-to : (c : tie.After-across2 Inv-loop μ-loop) →
-    let g = c .before .before .before .before .before in
-    let b = g .before .before .before .before in
+    let g = head c in
+    let b = start g in
     let l = b .args .l .now in
     At l (b .args .m) (next (ring l .size) (g .loop .i)) (toZ w64 (ofZ w64 (c .before .before .at3 .result))) (toZ w64 (ofZ w64 (c .before .at4 .result))) (toZ w64 (ofZ w64 (c .across2 .result)))
 at-to c = record { corner = corner-next (c .before); side = read w64 (c .across2 .ok) (c .across2 .ensures) }
 
 touch-requires : tie.Need-touch-requires Inv-loop μ-loop
 touch-requires c κs =
-    let b = c .before .before .before .before .before .before .before .before .before in
-    let h = c .before .before .before .before .loop-test .taken in
+    let b = start (head c) in
+    let h = turn c .loop-test .taken in
     (ready (b .args .l .now) (b .args .m) (b .args .s) (b .pre) _ _ _ _ _ _ _ _ h (next-below _ _ h) (at-from c) (at-to c), (at-from c .side, at-to c .side))
 
 earlier-requires : tie.Need-earlier-requires Inv-loop μ-loop
 earlier-requires c κs = tt
 
 -- i stays below the count
-turn : (c : tie.After-earlier Inv-loop μ-loop) →
-    let g = c .before .before .before .before .before .before .before in
-    g .loop .i < length (g .before .before .before .before .args .l .now) / 2
-turn c = c .before .before .before .before .before .before .loop-test .taken
+more : (c : tie.After-earlier Inv-loop μ-loop) →
+    let g = head (c .before .before) in
+    g .loop .i < length (start g .args .l .now) / 2
+more c = turn (c .before .before) .loop-test .taken
 
 add-i : tie.Need-add-i Inv-loop μ-loop
-add-i c = let h = turn c in let g = c .before .before .before .before .before .before .before .before .before .before .before .good .0 in omega (arith, h, g)
+add-i c = let h = more c in let g = start (head (c .before .before)) .good .0 in omega (arith, h, g)
 
 loop-less : tie.Need-loop-less Inv-loop μ-loop
-loop-less c = let h = turn c in omega (arith, h)
+loop-less c = let h = more c in omega (arith, h)
 
 loop-again : tie.Need-loop-again Inv-loop μ-loop
 loop-again c =
     let d = c .before .before in
-    let g = d .before .before .before .before .before in
-    let b = g .before .before .before .before in
-    let h = turn c in
+    let g = head d in
+    let b = start g in
+    let h = more c in
     record {
       bound = omega (arith, h);
       first = step (b .args .l .now) (b .args .m) (b .args .s) (b .pre) (g .loop .i) (g .loop .best) (c .before .touch .result) (c .earlier .result) _ _ _ _ _ _ (g .loop .inv .first)
@@ -176,7 +187,7 @@ loop-again c =
 returns : tie.Need-returns Inv-loop μ-loop
 returns c =
     let v = c .before .loop .inv in
-    let e : c .before .loop .i ≡ length (c .before .before .before .before .before .args .l .now) / 2 = omega (arith, v .bound, c .loop-test .left) in
+    let e : c .before .loop .i ≡ length (start (c .before) .args .l .now) / 2 = omega (arith, v .bound, c .loop-test .left) in
     rw e at (v .first)
 
 pub touches-spec : {M : Type 1} → statement M

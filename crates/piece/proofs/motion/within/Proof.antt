@@ -1,4 +1,4 @@
--- `motion::within` is within. Assumes nothing.
+-- `motion::within` is within: clipped from the least of the two and then up to the most, whose differences fit. Assumes nothing.
 use mathlib.Core.Path.{_≡_, sym, subst, ap, _∙_}
 use native.Mathlib.Omega.{arith}
 use borrow.Author.Needs.{needs}
@@ -14,9 +14,6 @@ use Rattle.piece.proofs.Moving.{small-clip, turned, turned-fits}
 use Rattle.piece.proofs.Touch.{low, high, low-fits, high-fits}
 use Rattle.piece.proofs.motion.within.Statement.{statement}
 use Rattle.piece.proofs.motion.within.Tie as tie
-
-least-requires : tie.Need-least-requires
-least-requires c κs = search needs
 
 -- the least and the most, read back
 the-least : (c : tie.After-least) → toZ w64 (ofZ w64 (c .least .result)) ≡ least (c .before .args .a) (c .before .args .b)
@@ -36,9 +33,6 @@ clip-requires c κs =
 -- what the first clip gives
 clipped : (c : tie.After-clip) → let a = c .before .before .args in spanOf (c .clip .result) ≡ decide.clip (spanOf (a .s)) (a .p -ℤ least (a .a) (a .b)) (a .w)
 clipped c = let b = c .before .before in rw (toZ-ofZ (b .fits .p), toZ-ofZ (b .fits .w), the-least (c .before), toZ-ofZ (low-fits _ _ _ _ _ (b .pre))) at (c .clip .ensures)
-
-most-requires : tie.Need-most-requires
-most-requires c κs = search needs
 
 sub-clip-2 : tie.Need-sub-clip-2
 sub-clip-2 c = let b = c .before .before .before in rw (toZ-ofZ (b .fits .p), the-most c) (high-fits _ _ _ _ _ (b .pre))
@@ -62,4 +56,4 @@ returns c =
     ∙ ap (λ (t : decide.Span). decide.clip t (most (a .a) (a .b) -ℤ a .p) (negℤ (a .w))) (clipped (c .before .before))
 
 pub within-spec : {M : Type 1} → statement M
-within-spec = tie.close (tie.spec least-requires sub-clip clip-requires most-requires sub-clip-2 sub-clip-3 clip-requires-2 returns)
+within-spec = tie.close (tie.spec (λ c κs. search needs) sub-clip clip-requires (λ c κs. search needs) sub-clip-2 sub-clip-3 clip-requires-2 returns)

@@ -1,4 +1,4 @@
--- `span::clip` is clip. Assumes nothing.
+-- `span::clip` is clip: a positive slope raises, a negative one lowers, and with none the base decides. Assumes nothing.
 use mathlib.Core.Path.{_∙_}
 use native.Mathlib.Omega.{arith}
 use borrow.Author.Needs.{needs}
@@ -44,9 +44,6 @@ returns-2 c =
     rw (toZ-ofZ (b .fits .a), toZ-ofZ (b .fits .b), turned (a .b) (omega (arith, b .pre .1 .slope))) at (c .lower .ensures)
     ∙ clip-down (spanOf (a .s)) (a .a) (a .b) (rw (toZ-ofZ (b .fits .b)) at (c .before .before .if1 .left)) (rw (toZ-ofZ (b .fits .b)) at (c .before .if2 .taken))
 
-none-requires : tie.Need-none-requires
-none-requires c κs = search needs
-
 returns-3 : tie.Need-returns-3
 returns-3 c =
     let b = c .before .before .before .before in
@@ -63,4 +60,4 @@ returns-4 c =
     (rw (toZ-ofZ (b .fits .a)) at (c .if3 .left))
 
 pub clip-spec : {M : Type 1} → statement M
-clip-spec = tie.close (tie.spec sub-raise raise-requires returns sub-lower lower-requires returns-2 none-requires returns-3 returns-4)
+clip-spec = tie.close (tie.spec sub-raise raise-requires returns sub-lower lower-requires returns-2 (λ c κs. search needs) returns-3 returns-4)

@@ -1,4 +1,4 @@
--- `span::first` is first. Assumes nothing.
+-- `span::first` is first: the mark is not negative and fits its word, so that the cast keeps it. Assumes nothing.
 use mathlib.Core.Path.{_≡_, _∙_}
 use native.Mathlib.Omega.{arith}
 use borrow.Author.Needs.{needs}

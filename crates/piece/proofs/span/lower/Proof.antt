@@ -1,4 +1,4 @@
--- `span::lower` is lower. Assumes nothing.
+-- `span::lower` is lower: the test is the definition's, and each branch its answer. Assumes nothing.
 use mathlib.Core.Path.{_≡_, sym, _∙_}
 use native.Mathlib.Omega.{arith}
 use borrow.Author.Needs.{needs}
@@ -16,9 +16,6 @@ said c = let b = c .before .before .before in
     c .sooner .ensures
     ∙ rw (field w64 (b .args .s .«high_n») (omega arith), field w64 (b .args .s .«high_d») (omega arith), toZ-ofZ (b .fits .n), toZ-ofZ (b .fits .d))
 
-sooner-requires : tie.Need-sooner-requires
-sooner-requires c κs = search needs
-
 returns : tie.Need-returns
 unfolding lower
 returns c =
@@ -31,4 +28,4 @@ unfolding lower
 returns-2 c = rw (sym (said (c .before)) ∙ c .if1 .left)
 
 pub lower-spec : {M : Type 1} → statement M
-lower-spec = tie.close (tie.spec sooner-requires returns returns-2)
+lower-spec = tie.close (tie.spec (λ c κs. search needs) returns returns-2)

@@ -1,4 +1,4 @@
--- `span::none` is none. Assumes nothing.
+-- `span::none` is none: the low end is kept, read back. Assumes nothing.
 use native.Mathlib.Omega.{arith}
 use mir.Syntax.{w64}
 use Rattle.whole.proofs.Range.{field}

@@ -1,4 +1,4 @@
--- `span::raise` is raise. Assumes nothing.
+-- `span::raise` is raise: the test is the definition's, and each branch its answer. Assumes nothing.
 use mathlib.Core.Path.{_≡_, sym, _∙_}
 use native.Mathlib.Omega.{arith}
 use borrow.Author.Needs.{needs}
@@ -16,9 +16,6 @@ said c = let b = c .before .before .before in
     c .sooner .ensures
     ∙ rw (field w64 (b .args .s .«low_n») (omega arith), field w64 (b .args .s .«low_d») (omega arith), toZ-ofZ (b .fits .n), toZ-ofZ (b .fits .d))
 
-sooner-requires : tie.Need-sooner-requires
-sooner-requires c κs = search needs
-
 returns : tie.Need-returns
 unfolding raise
 returns c =
@@ -31,4 +28,4 @@ unfolding raise
 returns-2 c = rw (sym (said (c .before)) ∙ c .if1 .left)
 
 pub raise-spec : {M : Type 1} → statement M
-raise-spec = tie.close (tie.spec sooner-requires returns returns-2)
+raise-spec = tie.close (tie.spec (λ c κs. search needs) returns returns-2)

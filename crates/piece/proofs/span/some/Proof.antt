@@ -1,4 +1,4 @@
--- `span::some` is some. Assumes nothing.
+-- `span::some` is some: both products fit, so that the words compare as the numbers do. Assumes nothing.
 use native.Mathlib.Omega.{arith}
 use mir.Facts.{toZ-ofZ}
 use mir.Syntax.{w64}

@@ -1,4 +1,4 @@
--- `spot::corner_at` is what it says. Assumes nothing.
+-- `spot::corner_at` is corner i over d: its two numbers, read, scaled and read back. Assumes nothing.
 use Rattle.piece.proofs.Steps.{scaled-fits}
 use Rattle.rules.specs.Ring.{ring}
 use Rattle.whole.proofs.Range.{read}
@@ -18,23 +18,8 @@ value-x c = read w64 (c .scaled .ok) (c .scaled .ensures ∙ rw (read w64 (c .be
 value-y : (c : tie.After-scaled2) → let s = c .before .before .before .before in toZ w64 (ofZ w64 (c .scaled2 .result)) ≡ s .args .d *ℤ ring (s .args .l .now) .at (s .args .i) .y
 value-y c = read w64 (c .scaled2 .ok) (c .scaled2 .ensures ∙ rw (read w64 (c .before .at2 .ok) (c .before .at2 .ensures), toZ-ofZ (c .before .before .before .before .fits .d)))
 
-mul-at : tie.Need-mul-at
-mul-at c = search needs
-
-at-requires : tie.Need-at-requires
-at-requires c κs = search needs
-
 scaled-requires : tie.Need-scaled-requires
 scaled-requires c κs = rw (read w64 (c .at .ok) (c .at .ensures), toZ-ofZ (c .before .fits .d)) (scaled-fits (c .before .args .d) _ (c .before .pre .0) (c .before .pre .1 .x))
-
-mul-at-2 : tie.Need-mul-at-2
-mul-at-2 c = search needs
-
-add-at : tie.Need-add-at
-add-at c = search needs
-
-at-requires-2 : tie.Need-at-requires-2
-at-requires-2 c κs = search needs
 
 scaled-requires-2 : tie.Need-scaled-requires-2
 scaled-requires-2 c κs = let s = c .before .before .before in rw (read w64 (c .at2 .ok) (c .at2 .ensures), toZ-ofZ (s .fits .d)) (scaled-fits (s .args .d) _ (s .pre .0) (s .pre .1 .y))
@@ -44,4 +29,4 @@ returns c = rw (value-x (c .before .before), value-y c)
 
 pub corner-at-spec : {M : Type 1} → statement M
 corner-at-spec =
-    tie.close (tie.spec mul-at at-requires scaled-requires mul-at-2 add-at at-requires-2 scaled-requires-2 returns)
+    tie.close (tie.spec (λ c. search needs) (λ c κs. search needs) scaled-requires (λ c. search needs) (λ c. search needs) (λ c κs. search needs) scaled-requires-2 returns)

@@ -1,8 +1,8 @@
--- `spot::grid_spot` is the place. Assumes nothing.
+-- `spot::grid_spot` is the place: `place_at` over 1, of a point and a footprint that pass. Assumes nothing.
 use Rattle.piece.proofs.Scan.{over-one}
-use Rattle.piece.proofs.Finds.{PlaceKnown, place-known}
+use Rattle.piece.proofs.Known.{PlaceKnown, place-known}
 use Rattle.piece.proofs.Steps.{reach-wide}
-use Rattle.piece.specs.Place.{pt}
+use Rattle.good.specs.Numbers.{pt}
 use Rattle.decide.proofs.Place.{place-right}
 use Rattle.decide.specs.Touch.{place}
 use Rattle.rules.specs.Ring.{Ring, ring}

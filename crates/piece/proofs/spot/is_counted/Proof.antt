@@ -1,4 +1,4 @@
--- `spot::is_counted` is the crossing flag. Assumes nothing.
+-- `spot::is_counted` is the crossing flag: four cases, by which ends are past the point. Assumes nothing.
 use Rattle.whole.proofs.Range.{read}
 use Rattle.whole.proofs.Flag.{lt-true, lt-false, true-le, false-le}
 use mir.Facts.{toZ-ofZ}

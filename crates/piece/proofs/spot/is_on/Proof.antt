@@ -1,5 +1,5 @@
--- `spot::is_on` is what it says. Assumes nothing.
-use Rattle.piece.specs.Place.{pt}
+-- `spot::is_on` is isOn: off the box in width or in height it is false, and in the box the line decides. Assumes nothing.
+use Rattle.good.specs.Numbers.{pt}
 use Rattle.decide.specs.Side.{sideOf}
 use Rattle.rules.specs.Ring.{Pt}
 use lib.IntN.{pos}

@@ -8,7 +8,7 @@ use denote.Ref.{now}
 use Rattle.block.specs.Reading.{HeaderSays}
 use Rattle.block.specs.declared.HeaderRead.{HeaderRead}
 use Rattle.block.specs.declared.HeaderRead.the-variants.{Count, NoHeader}
-use Rattle.block.specs.Layout.{blockAt}
+use Rattle.seal.specs.Seal.{blockAt}
 use Rattle.room.specs.Image.{Whole}
 use Rattle.room.proofs.Images.{not-whole, no-header, head-good, head-bad}
 use borrow.Author.Needs.{needs}

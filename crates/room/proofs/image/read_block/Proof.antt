@@ -4,7 +4,7 @@ use mathlib.Core.List.{List}
 use Prim.Native.Nat.{ℕ}
 use native.Mathlib.Omega.{arith}
 use denote.Ref.{now}
-use Rattle.block.specs.Reading.{PieceSays}
+use Rattle.piece_block.specs.Reading.{PieceSays}
 use Rattle.room.proofs.Images.{part-is, has-few, has-long}
 use borrow.Author.Needs.{needs}
 use Rattle.room.proofs.image.read_block.Statement.{statement}

@@ -5,9 +5,9 @@ use Prim.Native.Nat.{ℕ, suc}
 use native.Mathlib.Omega.{arith}
 use denote.Ref.{now}
 use Rattle.rules.specs.Reach.{Run}
-use Rattle.piece.specs.Numbers.{runOf}
-use Rattle.block.specs.Layout.{blockAt}
-use Rattle.block.specs.Verdicts.{VerdictInSays}
+use Rattle.good.specs.Numbers.{runOf}
+use Rattle.seal.specs.Seal.{blockAt}
+use Rattle.piece_block.specs.Verdicts.{VerdictInSays}
 use Rattle.room.specs.Codes.{CodeFound}
 use Rattle.room.proofs.Images.{part-is, has-few, has-long}
 use Rattle.room.proofs.Coding.{code-found}

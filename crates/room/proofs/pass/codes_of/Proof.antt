@@ -10,7 +10,7 @@ use borrow.Author.Count.{below-none}
 use Rattle.rules.specs.Reach.{Run}
 use Rattle.piece.specs.declared.motion.Coded.{Coded}
 use Rattle.piece.specs.declared.motion.Coded.the-variants.{Code, Refused}
-use Rattle.piece.specs.Numbers.{runOf}
+use Rattle.good.specs.Numbers.{runOf}
 use Rattle.room.specs.Image.{count, HeadGood, Has}
 use Rattle.room.specs.Codes.{CodeFound, CodesTo}
 use Rattle.room.proofs.Images.{head-few}

@@ -9,24 +9,12 @@ use borrow.Author.Needs.{needs}
 use Rattle.room.proofs.pass.read_codes.Statement.{statement}
 use Rattle.room.proofs.pass.read_codes.Tie as tie
 
-head-requires : tie.Need-head-requires
-head-requires c κs = search needs
-
 -- what the head found, where its answer is known
 told : (c : tie.After-head) (r : Counted) → c .head .result ≡ r → HeadSays (now (c .before .before .args .image)) r
 told c r e = subst (HeadSays (now (c .before .before .args .image))) e (c .head .ensures)
 
-enum-known-n : tie.Need-enum-known-n
-enum-known-n c = search needs
-
 codes-of-requires : tie.Need-codes-of-requires
 codes-of-requires c κs = let d = c .before .before .before in (d .before .before .pre, told d (Count (c .before .n .given .0 .0)) (c .before .n .given .1))
-
-enum-known-x : tie.Need-enum-known-x
-enum-known-x c = search needs
-
-returns : tie.Need-returns
-returns c = search needs
 
 returns-2 : tie.Need-returns-2
 returns-2 c =
@@ -36,4 +24,4 @@ returns-2 c =
 pub read-codes-spec : {M : Type 1} → statement M
 read-codes-spec =
     tie.close
-    (tie.spec head-requires enum-known-n codes-of-requires enum-known-x returns returns-2)
+    (tie.spec (λ c κs. search needs) (λ c. search needs) codes-of-requires (λ c. search needs) (λ c. search needs) returns-2)

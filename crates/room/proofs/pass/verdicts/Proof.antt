@@ -6,7 +6,7 @@ use denote.Ref.{now}
 use Rattle.rules.specs.Reach.{Run}
 use Rattle.rules.specs.Refusal.{Passes}
 use Rattle.rules.specs.Good.{runChecks}
-use Rattle.piece.specs.Numbers.{runOf}
+use Rattle.good.specs.Numbers.{runOf}
 use Rattle.refusal.proofs.Finds.{found-good, found-bad}
 use Rattle.room.specs.declared.Counted.{Counted}
 use Rattle.room.specs.declared.Counted.the-variants.{Count, Refused}

@@ -1,7 +1,8 @@
--- `shade::answer::answer` meets its contract. Assumes nothing.
+-- `shade::answer::answer` meets its contract: a wrong length has its line, every other input the answer of its blocks. Assumes nothing.
 use mathlib.Core.Path.{ap}
 use denote.Ref.{now}
-use Rattle.shade.specs.Text.{roomLine, lengthChecks, badLength}
+use Rattle.notice.specs.Notice.{roomLine}
+use Rattle.shade.specs.Text.{lengthChecks, badLength}
 use Rattle.shade.proofs.Found.{alone, whole, counted}
 use borrow.Author.Needs.{needs}
 use Rattle.shade.proofs.answer.answer.Statement.{statement}

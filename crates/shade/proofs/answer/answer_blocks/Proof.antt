@@ -1,4 +1,4 @@
--- `shade::answer::answer_blocks` meets its contract. Assumes nothing.
+-- `shade::answer::answer_blocks` meets its contract: a refused run has its line, a good one the answer of the room. Assumes nothing.
 use mathlib.Core.Path.{refl}
 use native.Mathlib.Omega.{arith}
 use denote.Ref.{now}
@@ -14,8 +14,9 @@ slice-aggregate-read-run c = omega (arith, length-take 512 (now (c .before .befo
 
 answer-room-requires : tie.Need-answer-room-requires
 answer-room-requires c κs =
-    let e = c .before .before .read2 .given .1 in let h = rw e at (c .before .before .before .before .read-run .ensures) in
-    (search needs, c .before .before .before .before .before .before .before .before .pre .1, h)
+    let called = c .before .before .before .before in
+    let h = rw (c .before .before .read2 .given .1) at (called .read-run .ensures) in
+    (search needs, called .before .before .before .before .pre .1, h)
 
 returns : tie.Need-returns
 returns c =

@@ -1,10 +1,10 @@
--- `shade::answer::answer_room` meets its contract. Assumes nothing.
+-- `shade::answer::answer_room` meets its contract: a refused room has its line, a good one the page of its verdicts. Assumes nothing.
 use mathlib.Core.Path.{refl}
 use native.Mathlib.Omega.{arith}
 use denote.Ref.{now}
 use Rattle.shade.specs.Text.{badRoom, verdicts}
 use Rattle.shade.proofs.Found.{rest, room-fault, few, printed, whole}
-use Rattle.piece.specs.Numbers.{runOf}
+use Rattle.good.specs.Numbers.{runOf}
 use borrow.Author.Needs.{needs}
 use Rattle.shade.proofs.answer.answer_room.Statement.{statement}
 use Rattle.shade.proofs.answer.answer_room.Tie as tie
@@ -18,10 +18,11 @@ put-page-requires c κs =
 
 returns : tie.Need-returns
 returns c =
-    let called = c .before .before .before .before .before .before .before .before in
+    let counted = c .before .before .before .before .before in
+    let called = counted .before .before .before in
     let start = called .before .before .before .before .before in
     let run = runOf (start .args .run) in
-    let w = rw (c .before .before .before .before .before .counted .given .1) at (called .verdicts .ensures) in
+    let w = rw (counted .counted .given .1) at (called .verdicts .ensures) in
     let f = rw (rest (now (start .args .input))) at (room-fault run _ _ (start .pre .2 .good) (search needs) _ (w .0)) in
     record {
       text = _;
@@ -32,10 +33,11 @@ returns c =
 
 returns-2 : tie.Need-returns-2
 returns-2 c =
-    let called = c .before .before .before .before .before .before .before .before .before in
+    let counted = c .before .before .before .before .before .before in
+    let called = counted .before .before .before in
     let start = called .before .before .before .before .before in
     let run = runOf (start .args .run) in let input = now (start .args .input) in
-    let w = rw (c .before .before .before .before .before .before .counted2 .given .1) at (called .verdicts .ensures) in
+    let w = rw (counted .counted2 .given .1) at (called .verdicts .ensures) in
     record {
       text = _;
       answers = verdicts (start .pre .1) run (start .pre .2) (printed run input _ _ _ (rw (rest input) at w));

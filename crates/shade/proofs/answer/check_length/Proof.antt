@@ -1,4 +1,4 @@
--- `shade::answer::check_length` meets its contract. Assumes nothing.
+-- `shade::answer::check_length` meets its contract: the three tests are the three demands on the length. Assumes nothing.
 use mathlib.Core.Path.{refl}
 use mathlib.Core.Logic.{inl}
 use native.Mathlib.Omega.{arith}

@@ -1,4 +1,4 @@
--- `shade::line::piece_line` meets its contract. Assumes nothing.
+-- `shade::line::piece_line` meets its contract: number, answer and feed, put one after the other, are the line. Assumes nothing.
 use Rattle.shade.specs.Text.{pieceLine}
 use Rattle.print.proofs.Put.{then}
 use borrow.Author.Needs.{needs}

@@ -1,4 +1,4 @@
--- `shade::line::piece_lines` meets its contract: what is put so far are the lines of the first i pieces. Assumes nothing.
+-- `shade::line::piece_lines` meets its contract: the lines of the pieces passed stand before the place reached. Assumes nothing.
 use mathlib.Core.Path.{_≡_}
 use Prim.Native.Nat.{_+_, _*_, _-_, _≤_}
 use native.Mathlib.Omega.{arith}

@@ -1,4 +1,4 @@
--- `shade::line::put_answer` meets its contract. Assumes nothing.
+-- `shade::line::put_answer` meets its contract: the code decides which word is put. Assumes nothing.
 use borrow.Author.Tests.{eq-eqb, ne-eqb}
 use Rattle.rules.specs.Verdict.{NONE}
 use borrow.Author.Needs.{needs}

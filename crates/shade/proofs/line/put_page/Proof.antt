@@ -1,4 +1,4 @@
--- `shade::line::put_page` meets its contract. Assumes nothing.
+-- `shade::line::put_page` meets its contract: the count's line, and the pieces' lines after it, are the page. Assumes nothing.
 use Rattle.shade.specs.Text.{page}
 use Rattle.print.proofs.Put.{then}
 use borrow.Author.Needs.{needs}

@@ -1,0 +1,3 @@
+pub mod Macros
+pub mod Coded
+pub mod Told

@@ -1,0 +1,9 @@
+pub mod Value
+pub mod Bits
+pub mod Exact
+pub mod Raised
+pub mod Whole
+pub mod Number
+pub mod Given
+pub mod Once
+pub mod Examples

@@ -1,0 +1,9 @@
+pub mod Told
+pub mod Seek
+pub mod Parts
+pub mod Words
+pub mod Digits
+pub mod Decimals
+pub mod Corners
+pub mod Says
+pub mod Unique

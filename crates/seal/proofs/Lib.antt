@@ -1,0 +1,11 @@
+pub mod Blocks
+pub mod Bytes
+pub mod Cleared
+pub mod Flags
+pub mod Fletcher
+pub mod OneFault
+pub mod PartLaws
+pub mod Replaced
+pub mod Unique
+pub mod Unnamed
+pub mod Zero

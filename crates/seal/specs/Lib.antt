@@ -1,0 +1,3 @@
+pub mod Parts
+pub mod Scan
+pub mod Seal
