@@ -1,4 +1,4 @@
--- `book::slot::is_entry` decides. Assumes nothing.
+-- `book::slot::is_entry` decides: the parts are those of the entry with the code's bytes. Assumes nothing.
 use mathlib.Core.Path.{sym, ap, _∙_}
 use mathlib.Core.List.{List, _++_}
 use Prim.Native.Nat.{ℕ}
