@@ -10,7 +10,7 @@ use Rattle.grid.specs.declared.Taken.{Taken}
 use Rattle.grid.specs.declared.Taken.the-variants.{Grid, OffGrid, NotNumber, Beyond}
 use Rattle.intake.specs.Footprint.{Row, numberCheck, cornerAt, cornersChecks, intakeChecks}
 use Rattle.coding.specs.Told.{Fits}
-use Rattle.coding.proofs.Arise.{Fit, AllFit, small, first, last, asks, fit-rows}
+use Rattle.coding.proofs.Arise.{Fit, AllFit, small, first, last, asks, fit-in-turn}
 use Rattle.baker.specs.Export.{corners, exportChecks}
 
 fit-number : (x : Float) (a b : ℕ) → a < 2 ^ 24 → b < 2 ^ 16 → Fit (numberCheck x a b)
@@ -24,7 +24,7 @@ fit-number x a b h k = record { fits = λ s f. by-row (f .0) s (f .2) }
 
 fit-corners : (cs : List Corner) (n : ℕ) → n ≤ 64 → AllFit (cornersChecks cs n)
 fit-corners cs n h =
-    fit-rows _ n λ i k. first (fit-number (cornerAt cs i .x) i 0 (omega arith) (omega arith)) (λ p. last (fit-number (cornerAt cs i .y) i 1 (omega arith) (omega arith)))
+    fit-in-turn _ n λ i k. first (fit-number (cornerAt cs i .x) i 0 (omega arith) (omega arith)) (λ p. last (fit-number (cornerAt cs i .y) i 1 (omega arith) (omega arith)))
 
 pub fit-export : (xs : List Float) (size : ℕ) → AllFit (exportChecks xs size)
 unfolding exportChecks intakeChecks

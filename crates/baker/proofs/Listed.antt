@@ -11,7 +11,7 @@ use borrow.Author.Tests.{le-leb, lt-leb}
 use Rattle.whole.specs.Front.{fronted}
 use Rattle.whole.proofs.Order.{ℕ-or}
 use Rattle.rules.specs.Refusal.{refuse}
-use Rattle.rules.proofs.Checks.{sharp-demand}
+use Rattle.rules.proofs.Checks.{definite-demand}
 use Rattle.refusal.specs.Said.{Writes}
 use Rattle.refusal.proofs.Unique.{written}
 use Rattle.refusal.specs.declared.Checked.{Checked}
@@ -44,7 +44,7 @@ put-listed l before after (Refused x) c w e =
 
 -- a part that fits
 pub put-fits : (l before after : List ℤ) (r : Checked) → length l ≤ length before → Puts l before after r → after ≡ fronted l before
-put-fits l before after r h w = written (putChecks l before) (sharp-demand _ _, tt) (fronted l before) before after r w (h, tt) .1
+put-fits l before after r h w = written (putChecks l before) (definite-demand _ _, tt) (fronted l before) before after r w (h, tt) .1
 
 -- and another after it, put into what stands past the first
 abbrev putAt : ℕ → List ℤ → List ℤ → List ℤ

@@ -10,7 +10,7 @@ use lib.Seq.{getD-set-same, getD-set-other}
 use lib.Ieee.{Float, nan}
 use Rattle.whole.proofs.Order.{ℕ-or}
 use Rattle.rules.specs.Reach.{Corners}
-use Rattle.rules.specs.Refusal.{Check, demand, refuse, rows}
+use Rattle.rules.specs.Refusal.{Check, demand, refuse, inTurn}
 use Rattle.refusal.specs.Said.{Finds}
 use Rattle.refusal.specs.declared.Checked.{Checked}
 use Rattle.refusal.specs.declared.Checked.the-variants.{Good, Refused}
@@ -51,7 +51,7 @@ corners-at (x ∷ (y ∷ l)) (suc i) h =
 -- ---- an intake of the same corners
 module _ (cs ds : List Corner) (n : ℕ) (same : (i : ℕ) → i < n → cornerAt cs i ≡ cornerAt ds i) where
   checks-same : (k : ℕ) → k ≤ n → cornersChecks cs k ≡ cornersChecks ds k
-  unfolding rows
+  unfolding inTurn
   checks-same zero h = refl
   checks-same (suc k) h = λ i. checks-same k (omega arith) i ++ cornerChecks (same k (omega arith) i) k
 

@@ -9,7 +9,7 @@ use Rattle.rules.specs.Reach.{Run, Piece}
 use Rattle.rules.specs.Refusal.{refuse}
 use Rattle.rules.specs.Ring.{Pt}
 use Rattle.rules.specs.Good.{runChecks, pieceChecks}
-use Rattle.rules.proofs.Checks.{AllSharp, sharp-demand}
+use Rattle.rules.proofs.Checks.{AllDefinite, definite-demand}
 use Rattle.refusal.specs.Said.{Finds, Writes}
 use Rattle.refusal.specs.declared.Checked.{Checked}
 use Rattle.refusal.specs.declared.Checked.the-variants.{Good, Refused}
@@ -29,7 +29,7 @@ use Rattle.block.proofs.Unique as block
 use Rattle.piece_block.proofs.Unique as pieceBlock
 use Rattle.grid.specs.Number.{Answer}
 use Rattle.grid.proofs.Once.{one-answer}
-use Rattle.intake.proofs.Once.{one-intake, sharp-intake}
+use Rattle.intake.proofs.Once.{one-intake, definite-intake}
 use Rattle.obj.specs.File.{ObjSays}
 use Rattle.obj.proofs.Unique as obj
 use Rattle.room.specs.Step.{StepSays}
@@ -99,9 +99,9 @@ take-one x g h i u v w c d m n =
     let e = coded-beside (Answer x) (takenOne g u) (lent h v) (lent i w) c d (one-answer x) m n in
     (e .0, ap (λ (l : Lent). l .grid) (e .1), ap (λ (l : Lent). l .floor) (e .1))
 
-sharp-export : (xs : List Float) (size : ℕ) → AllSharp (exportChecks xs size)
+definite-export : (xs : List Float) (size : ℕ) → AllDefinite (exportChecks xs size)
 unfolding exportChecks
-sharp-export xs size = (sharp-demand (length xs % 2 ≡ 0) (refuse 5 0 0), sharp-intake (corners xs) (length xs / 2) size)
+definite-export xs size = (definite-demand (length xs % 2 ≡ 0) (refuse 5 0 0), definite-intake (corners xs) (length xs / 2) size)
 
 -- a list that was filled is filled in one way
 later-one : (xs : List Float) (before a b : List ℤ) (r : Checked) → Exported xs before a r → Exported xs before b r → a ≡ b
@@ -112,7 +112,7 @@ later-one xs before a b Good h k =
 
 exported-one : (xs : List Float) (before a b : List ℤ) (r s : Checked) → Exported xs before a r → Exported xs before b s → (r ≡ s) × (a ≡ b)
 exported-one xs before a b r s h k =
-    let e = finds-one (exportChecks xs (length before)) (sharp-export xs (length before)) r s (h .finds) (k .finds) in
+    let e = finds-one (exportChecks xs (length before)) (definite-export xs (length before)) r s (h .finds) (k .finds) in
     (e, later-one xs before a b s (subst (λ (q : Checked). Exported xs before a q) e h) k)
 
 pub intake-one : (xs : List Float) (before a b : List ℤ) (c d : ℕ) → IntakeGives xs before a c → IntakeGives xs before b d → (c ≡ d) × (a ≡ b)

@@ -3,7 +3,7 @@ use mathlib.Core.Path.{_≡_, sym, subst}
 use mathlib.Core.List.{List}
 use Prim.Native.Nat.{ℕ}
 use Rattle.rules.specs.Refusal.{Check as Test, Passes, Fault}
-use Rattle.rules.proofs.Checks.{Sharp, AllSharp, never-both, one-fault}
+use Rattle.rules.proofs.Checks.{Definite, AllDefinite, never-both, one-fault}
 use Rattle.refusal.specs.Said.{Finds}
 use Rattle.block.specs.Reading.{bytesOf, inside}
 use Rattle.block.specs.declared.kind.Kind.{Kind}
@@ -13,9 +13,9 @@ use Rattle.refusal.specs.declared.Checked.{Checked}
 pub of-kind : {k j : Kind} (l : List ℕ) (r : Checked) → k ≡ j → Finds (bytesOf j l) r → Finds (bytesOf k l) r
 of-kind l r e f = subst (λ i. Finds (bytesOf i l) r) (sym e) f
 
--- the checks of what a block holds are sharp where it holds one thing
-pub sharp-inside : {A : Type 0} (In : A → Type 0) (cs : A → List Test) → ((a b : A) → In a → In b → a ≡ b) → ((a : A) → AllSharp (cs a)) → Sharp (inside In cs)
-sharp-inside In cs one sharp = record {
-  never = λ s p f. never-both (cs (f .0)) (sharp (f .0)) s (subst (λ a. Passes (cs a)) (one (p .0) (f .0) (p .1) (f .1)) (p .2)) (f .2);
-  one = λ s t f g. one-fault (cs (g .0)) (sharp (g .0)) s t (subst (λ a. Fault (cs a) s) (one (f .0) (g .0) (f .1) (g .1)) (f .2)) (g .2);
+-- the checks of what a block holds are definite where it holds one thing
+pub definite-inside : {A : Type 0} (In : A → Type 0) (cs : A → List Test) → ((a b : A) → In a → In b → a ≡ b) → ((a : A) → AllDefinite (cs a)) → Definite (inside In cs)
+definite-inside In cs one definite = record {
+  never = λ s p f. never-both (cs (f .0)) (definite (f .0)) s (subst (λ a. Passes (cs a)) (one (p .0) (f .0) (p .1) (f .1)) (p .2)) (f .2);
+  one = λ s t f g. one-fault (cs (g .0)) (definite (g .0)) s t (subst (λ a. Fault (cs a) s) (one (f .0) (g .0) (f .1) (g .1)) (f .2)) (g .2);
 }

@@ -1,6 +1,6 @@
 -- A header and its block: what passes is the block of its count, and the block of a good count passes. Assumes nothing.
 use mathlib.Core.Path.{_≡_, refl, sym, ap, _∙_}
-use mathlib.Core.List.{List, [], _∷_, _++_}
+use mathlib.Core.List.{List, [], _∷_}
 use Prim.Native.Nat.{ℕ, zero, suc, _+_, _≤_, _<_}
 use native.Mathlib.Omega.{arith}
 use lib.ListN.{length, getD, List·getD-append}
@@ -38,17 +38,24 @@ module _ (l : List ℕ) (p : Passes (headerChecks l)) where
   unfolding headerBytes
   letter j h = stable _ _ (rest .0 j h)
 
-  alike : Alike l (headerFront (byte l 5))
+  edition-is : byte l 4 ≡ edition
   unfolding headerBytes
+  edition-is = rest .1 .0
+
+  zero-at : (n : ℕ) → n < 504 → byte l (6 + n) ≡ 0
+  unfolding headerBytes
+  zero-at n h = stable (byte l (6 + n)) 0 (rest .1 .1 .1 .0 n h)
+
+  alike : Alike l (headerFront (byte l 5))
   alike zero h = letter 0 (omega arith)
   alike (suc zero) h = letter 1 (omega arith)
   alike (suc (suc zero)) h = letter 2 (omega arith)
   alike (suc (suc (suc zero))) h = letter 3 (omega arith)
-  alike (suc (suc (suc (suc zero)))) h = rest .1 .0
+  alike (suc (suc (suc (suc zero)))) h = edition-is
   alike (suc (suc (suc (suc (suc zero))))) h = refl
   alike (suc (suc (suc (suc (suc (suc n)))))) h =
       let e : suc (suc (suc (suc (suc (suc n))))) ≡ 6 + n = omega arith in
-      rw e (stable (byte l (6 + n)) 0 (rest .1 .1 .1 .0 n (omega arith)))
+      rw e (zero-at n (omega arith))
 
   pub header-count : Pieces (byte l 5)
   unfolding headerBytes

@@ -4,7 +4,7 @@ use mathlib.Core.List.{List, [], _∷_}
 use Prim.Native.Nat.{ℕ, _+_, _*_, _<_}
 use lib.ListN.{length}
 use Rattle.rules.specs.Reach.{Corners, Pieces}
-use Rattle.rules.proofs.Checks.{sharp-demand}
+use Rattle.rules.proofs.Checks.{definite-demand}
 use Rattle.refusal.specs.Said.{Finds}
 use Rattle.refusal.proofs.Finds.{finds-after, finds-past}
 use Rattle.refusal.specs.declared.Checked.{Checked}
@@ -18,7 +18,7 @@ Found l from r = Finds (lengthCheck l ∷ unnamedCheck l from ∷ []) r
 
 -- where the length is known, what is found of those bytes
 unnamed-found : (l : List ℕ) (from : ℕ) (r : Checked) → length l ≡ blockSize → Found l from r → Finds (unnamedCheck l from ∷ []) r
-unnamed-found l from r e f = finds-past (lengthCheck l) (unnamedCheck l from ∷ []) (sharp-demand _ _) r e f
+unnamed-found l from r e f = finds-past (lengthCheck l) (unnamedCheck l from ∷ []) (definite-demand _ _) r e f
 
 pub header-last : (l : List ℕ) (r : Checked) → length l ≡ blockSize → ((j : ℕ) → j < 4 → Misspelt l j → ⊥) → byte l 4 ≡ edition → Pieces (byte l 5) → Found l 6 r → Finds (headerBytes l) r
 unfolding headerBytes

@@ -1,13 +1,12 @@
 -- A block of zeros, whose check is right, is refused for its first byte. Assumes nothing.
-use mathlib.Core.Path.{_≡_, refl}
+use mathlib.Core.Path.{refl}
 use mathlib.Core.Logic.{inl}
 use mathlib.Core.List.{[], _∷_, _++_}
-use Prim.Native.Nat.{ℕ, suc}
 use native.Mathlib.Omega.{arith}
-use Rattle.rules.specs.Refusal.{refuse, Passes, Fault}
+use Rattle.rules.specs.Refusal.{refuse, Fault}
 use Rattle.rules.specs.Good.{runChecks}
 use Rattle.rules.proofs.Checks.{fault-left, fault-right}
-use Rattle.seal.specs.Seal.{byte, blockChecks}
+use Rattle.seal.specs.Seal.{blockChecks}
 use Rattle.block.specs.Reading.{RunIn, inside, headerBytes, headerChecks, runBytes, runBlockChecks}
 use Rattle.seal.proofs.Zero.{zeros, zero-not, zero-sealed}
 

@@ -18,7 +18,7 @@ use Rattle.book.specs.declared.slot.Memory.{Memory}
 use Rattle.book.specs.declared.slot.Memory.the-variants.{Code, Nothing}
 use Rattle.book.specs.Entry.{Slots, slots, keyLength, four, entryOf, home, entry, Hit, put}
 use Rattle.book.specs.Ask.{askChecks, AskSays}
-use Rattle.book.specs.Steps.{cleared, Begun, SoundAfter, Recalls, Keeps, Works}
+use Rattle.book.specs.Steps.{firstBytes, Begun, SoundAfter, Recalls, Keeps, Works}
 use Rattle.book.proofs.Slots.{slot-in}
 use Rattle.book.proofs.Kept.{piece-passes}
 use Rattle.book.proofs.Lay.{home-is}
@@ -48,35 +48,35 @@ module _ (book front : List ℕ) (r : Run) (k : Piece) (end i : ℕ) (q : Asking
     at-home : i ≡ home book r k
     at-home = q .at ∙ home-is book front r k p (q .begun .first p)
 
-    entry-is : (c : ℕ) → blockOf (cleared front end ++ four c) ≡ entry r k c
+    entry-is : (c : ℕ) → blockOf (firstBytes front end ++ four c) ≡ entry r k c
     unfolding entryOf
     entry-is c = ap (λ (l : List ℕ). blockOf (l ++ four c)) (q .begun .zeros p)
 
-    to-hit : (c : ℕ) → SoundAfter (blockAt book i) (cleared front end) r c → Hit book r k c
+    to-hit : (c : ℕ) → SoundAfter (blockAt book i) (firstBytes front end) r c → Hit book r k c
     to-hit c h = record { fits = h .fits; possible = h .possible; same = ap (blockAt book) (sym at-home) ∙ h .same ∙ entry-is c }
 
-    of-hit : (c : ℕ) → Hit book r k c → SoundAfter (blockAt book i) (cleared front end) r c
+    of-hit : (c : ℕ) → Hit book r k c → SoundAfter (blockAt book i) (firstBytes front end) r c
     of-hit c h = record { fits = h .fits; possible = h .possible; same = ap (blockAt book) at-home ∙ h .same ∙ sym (entry-is c) }
 
     -- what is kept is the entry in its home
-    kept-is : (after : List ℕ) (c : ℕ) → Keeps book after i (cleared front end) c → after ≡ put book (home book r k) (entry r k c)
+    kept-is : (after : List ℕ) (c : ℕ) → Keeps book after i (firstBytes front end) c → after ≡ put book (home book r k) (entry r k c)
     kept-is after c e =
         e
-        ∙ ap (λ n. put book n (blockOf (cleared front end ++ four c))) at-home
+        ∙ ap (λ n. put book n (blockOf (firstBytes front end ++ four c))) at-home
         ∙ ap (λ (z : List ℕ). put book (home book r k) z) (entry-is c)
 
-  module _ (x : Memory) (f : Recalls (blockAt book i) (cleared front end) r x) where
+  module _ (x : Memory) (f : Recalls (blockAt book i) (firstBytes front end) r x) where
     pub hits : (c : ℕ) → x ≡ Code c → Passes (pieceChecks k) → AskSays book book r k (Remembered c)
-    hits c g p = record { passes = all-pass p; hit = to-hit p c (subst (Recalls (blockAt book i) (cleared front end) r) g f); same = refl }
+    hits c g p = record { passes = all-pass p; hit = to-hit p c (subst (Recalls (blockAt book i) (firstBytes front end) r) g f); same = refl }
 
-    pub works : (after : List ℕ) (a : Asked) → x ≡ Nothing → Works book after i (cleared front end) r k a → AskSays book after r k a
+    pub works : (after : List ℕ) (a : Asked) → x ≡ Nothing → Works book after i (firstBytes front end) r k a → AskSays book after r k a
     unfolding askChecks
     works after (Remembered c) g w = absurd w
     works after (Worked c) g w =
         let p = piece-passes r k (w .passes) in
         record {
           passes = all-pass p;
-          miss = λ m h. subst (Recalls (blockAt book i) (cleared front end) r) g f m (of-hit p m h);
+          miss = λ m h. subst (Recalls (blockAt book i) (firstBytes front end) r) g f m (of-hit p m h);
           small = w .small;
           verdict = w .verdict;
           stored = kept-is p after c (w .kept);

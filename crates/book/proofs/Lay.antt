@@ -16,7 +16,7 @@ use Rattle.block.proofs.Bodies.{run-body-length}
 use Rattle.piece_block.proofs.Bodies.{front-length}
 use Rattle.seal.proofs.Replaced.{mid, mid-length, mid-front, two-length, two-then}
 use Rattle.book.specs.Entry.{slots, keyLength, pieceAt, pieceLength, codeAt, kind, opening, question, home}
-use Rattle.book.specs.Steps.{cleared, Begun}
+use Rattle.book.specs.Steps.{firstBytes, Begun}
 use Rattle.book.proofs.Question.{good-length}
 
 abbrev pub zeros : ℕ → List ℕ
@@ -40,9 +40,9 @@ module _ (r : Run) (k : Piece) (few : length (k .corners) ≤ 128) where
   unfolding filled
   before-zeros n e = ap (take n) padded ∙ take-at named (zeros (codeAt - length named)) n e
 
-  cleared-is : (end : ℕ) → end ≡ pieceAt + (11 + 2 * length (k .corners)) → cleared (opening (question r k)) end ≡ opening (question r k)
-  unfolding cleared
-  cleared-is end e = ap (filled codeAt) (before-zeros end (named-length ∙ sym e)) ∙ sym padded
+  first-bytes-are : (end : ℕ) → end ≡ pieceAt + (11 + 2 * length (k .corners)) → firstBytes (opening (question r k)) end ≡ opening (question r k)
+  unfolding firstBytes
+  first-bytes-are end e = ap (filled codeAt) (before-zeros end (named-length ∙ sym e)) ∙ sym padded
 
 -- ---- the run's bytes, and the piece's after them
 module _ (r : Run) (front bytes : List ℕ) (z : length front ≡ codeAt) (h : bytes ≡ runBody r) where
@@ -81,7 +81,7 @@ module _ (r : Run) (front bytes : List ℕ) (z : length front ≡ codeAt) (h : b
       begin end q = record {
         within = omega arith;
         first = λ p. first;
-        zeros = λ p. ap (λ (a : List ℕ). cleared a end) first ∙ cleared-is r k few end q;
+        zeros = λ p. ap (λ (a : List ℕ). firstBytes a end) first ∙ first-bytes-are r k few end q;
       }
 
 -- nothing is promised of another piece

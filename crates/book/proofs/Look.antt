@@ -12,11 +12,11 @@ use Rattle.seal.proofs.Bytes.{filled-length, block-at}
 use Rattle.rules.specs.Verdict.{NONE}
 use Rattle.book.specs.declared.slot.Memory.the-variants.{Code, Nothing}
 use Rattle.book.specs.Entry.{codeAt, codeEnd, four, Possible}
-use Rattle.book.specs.Steps.{CodeBytes, Cut, cleared, SoundAfter, Recalls}
+use Rattle.book.specs.Steps.{CodeBytes, Cut, firstBytes, SoundAfter, Recalls}
 
-pub cleared-length : (front : List ℕ) (end : ℕ) → Cut front end → length (cleared front end) ≡ codeAt
-unfolding cleared
-cleared-length front end u = let w = u .within in filled-length codeAt (take end front) (omega (arith, length-take end front))
+pub first-bytes-length : (front : List ℕ) (end : ℕ) → Cut front end → length (firstBytes front end) ≡ codeAt
+unfolding firstBytes
+first-bytes-length front end u = let w = u .within in filled-length codeAt (take end front) (omega (arith, length-take end front))
 
 -- ---- four bytes and their number
 pub code-of : (c : ℕ) → c < 4294967296 → c ≡ c % 256 + 256 * (c / 256 % 256) + 65536 * (c / 256 / 256 % 256) + 16777216 * (c / 256 / 256 / 256 % 256)

@@ -5,8 +5,8 @@ use Prim.Native.Nat.{ℕ}
 use Rattle.rules.specs.Reach.{Run, Piece}
 use Rattle.rules.specs.Refusal.{Passes, Fault}
 use Rattle.rules.specs.Verdict.{Verdict, answer}
-use Rattle.rules.proofs.Checks.{AllSharp, sharp-demand, never-both}
-use Rattle.rules.proofs.Good.{sharp-verdict}
+use Rattle.rules.proofs.Checks.{AllDefinite, definite-demand, never-both}
+use Rattle.rules.proofs.Good.{definite-verdict}
 use Rattle.rules.proofs.Verdict.{one-verdict, answer-one}
 use Rattle.refusal.specs.Said.{said}
 use Rattle.refusal.specs.declared.Refusal as told
@@ -19,9 +19,9 @@ use Rattle.book.specs.Ask.{askChecks, AskSays}
 use Rattle.book.proofs.Question.{as-long, entry-key, entry-code, question-run, question-piece}
 use Rattle.book.proofs.Kept.{run-of, piece-of}
 
-sharp-ask : (book : List ℕ) (r : Run) (k : Piece) → AllSharp (askChecks book r k)
+definite-ask : (book : List ℕ) (r : Run) (k : Piece) → AllDefinite (askChecks book r k)
 unfolding askChecks
-sharp-ask book r k = (sharp-demand _ _, sharp-verdict r k)
+definite-ask book r k = (definite-demand _ _, definite-verdict r k)
 
 -- two questions never answer for each other, though they share slot and sum
 module _ (book : List ℕ) (r s : Run) (k m : Piece) (p : Passes (askChecks book r k)) (q : Passes (askChecks book s m)) where
@@ -39,11 +39,11 @@ worked-one r k c d h g = answer-one c d (one-verdict r k (answer c) (answer d) h
 
 -- what passes has no fault
 clash : (book : List ℕ) (r : Run) (k : Piece) (x : told.Refusal) {A : Type 0} → Passes (askChecks book r k) → Fault (askChecks book r k) (said x) → A
-clash book r k x p f = absurd (never-both (askChecks book r k) (sharp-ask book r k) (said x) p f)
+clash book r k x p f = absurd (never-both (askChecks book r k) (definite-ask book r k) (said x) p f)
 
 -- the answer: a fault, a hit and neither exclude each other, and of each there is one
 pub one-answer : (book after later : List ℕ) (r : Run) (k : Piece) (a b : Asked) → AskSays book after r k a → AskSays book later r k b → a ≡ b
-one-answer book after later r k (Refused x) (Refused y) h g = ap Refused (refused-one (askChecks book r k) (sharp-ask book r k) x y (h .0) (g .0))
+one-answer book after later r k (Refused x) (Refused y) h g = ap Refused (refused-one (askChecks book r k) (definite-ask book r k) x y (h .0) (g .0))
 one-answer book after later r k (Refused x) (Remembered d) h g = clash book r k x (g .passes) (h .0)
 one-answer book after later r k (Refused x) (Worked d) h g = clash book r k x (g .passes) (h .0)
 one-answer book after later r k (Remembered c) (Refused y) h g = clash book r k y (h .passes) (g .0)

@@ -16,11 +16,11 @@ use Rattle.book.specs.declared.slot.Memory.the-variants.{Code, Nothing}
 use Rattle.book.specs.Entry.{codeAt, question, four, opening, Possible, put}
 
 -- the first bytes of an entry before `end`, and zeros from there to the verdict
-unfoldable pub cleared : List ℕ → ℕ → List ℕ
-cleared front end = filled codeAt (take end front)
+unfoldable pub firstBytes : List ℕ → ℕ → List ℕ
+firstBytes front end = filled codeAt (take end front)
 
 -- a good run, and the room to lay a question out in
-pub record Ready (r : Run) (front : List ℕ) : Type 0 where
+pub record Layable (r : Run) (front : List ℕ) : Type 0 where
   pub good : Passes (runChecks r)
   pub long : length front ≡ codeAt
 
@@ -28,7 +28,7 @@ pub record Ready (r : Run) (front : List ℕ) : Type 0 where
 pub record Begun (r : Run) (k : Piece) (front : List ℕ) (end : ℕ) : Type 0 where
   pub within : end ≤ codeAt
   pub first : Passes (pieceChecks k) → front ≡ opening (question r k)
-  pub zeros : Passes (pieceChecks k) → cleared front end ≡ opening (question r k)
+  pub zeros : Passes (pieceChecks k) → firstBytes front end ≡ opening (question r k)
 
 -- the first bytes have an end
 pub record Cut (front : List ℕ) (end : ℕ) : Type 0 where
@@ -51,16 +51,16 @@ Recalls slot first r Nothing = (c : ℕ) → SoundAfter slot first r c → ⊥
 
 -- slot i becomes the block of these first bytes and a code
 abbrev pub Keeps : List ℕ → List ℕ → ℕ → List ℕ → ℕ → Type 0
-Keeps book after i front c = after ≡ put book i (blockOf (front ++ four c))
+Keeps book after i first c = after ≡ put book i (blockOf (first ++ four c))
 
 -- a good question is worked out and kept; another changes nothing
-pub record Worked-out (book after : List ℕ) (i : ℕ) (front : List ℕ) (r : Run) (k : Piece) (c : ℕ) : Type 0 where
+pub record Worked-out (book after : List ℕ) (i : ℕ) (first : List ℕ) (r : Run) (k : Piece) (c : ℕ) : Type 0 where
   pub passes : Passes (verdictChecks r k)
   pub small : c < 4294967296
   pub verdict : Verdict r k (answer c)
-  pub kept : Keeps book after i front c
+  pub kept : Keeps book after i first c
 
 abbrev pub Works : List ℕ → List ℕ → ℕ → List ℕ → Run → Piece → Asked → Type 0
-Works book after i front r k (Remembered c) = ⊥
-Works book after i front r k (Worked c) = Worked-out book after i front r k c
-Works book after i front r k (Refused x) = Fault (verdictChecks r k) (said x) × (after ≡ book)
+Works book after i first r k (Remembered c) = ⊥
+Works book after i first r k (Worked c) = Worked-out book after i first r k c
+Works book after i first r k (Refused x) = Fault (verdictChecks r k) (said x) × (after ≡ book)

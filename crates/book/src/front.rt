@@ -10,7 +10,7 @@ ghost use lib.ListN.{length};
 ghost use Rattle.good.specs.Numbers.{runOf, pieceOf};
 ghost use Rattle.seal.specs.Seal.{byte, sum};
 ghost use Rattle.book.specs.Entry.{keyLength, codeAt, four};
-ghost use Rattle.book.specs.Steps.{Ready, Begun};
+ghost use Rattle.book.specs.Steps.{Layable, Begun};
 
 // Byte 0 of an entry.
 const KIND: u8 = 3;
@@ -26,7 +26,7 @@ pub(crate) const CODE: usize = 2 + KEY;
 
 // Bytes 0 to 282, of every good piece: kind, zero, the run and the piece; answers from where on they are zero.
 pub(crate) fn lay(run: Run, slab: Slab, corners: &[i32], front: &mut [u8]) -> usize
-    requires { ⌜ Ready (runOf run) (now front) ⌝ }
+    requires { ⌜ Layable (runOf run) (now front) ⌝ }
     ensures { λ r. ⌜ Begun (runOf run) (pieceOf slab (now (corners .entry))) (now (front .exit)) r ⌝ }
 {
     front[0] = KIND;

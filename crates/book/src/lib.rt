@@ -24,7 +24,7 @@ ghost use Rattle.good.specs.Numbers.{runOf, pieceOf};
 ghost use Rattle.seal.specs.Seal.{blockSize};
 ghost use Rattle.book.specs.Entry.{Slots};
 ghost use Rattle.book.specs.Ask.{AskSays};
-ghost use Rattle.book.specs.Steps.{Ready, Cut, cleared, Works};
+ghost use Rattle.book.specs.Steps.{Layable, Cut, firstBytes, Works};
 
 // A verdict, coded as in an entry, that was remembered or worked out; or the refusal.
 pub enum Asked {
@@ -44,7 +44,7 @@ fn work(
     corners: &[i32],
 ) -> Asked
     requires { ⌜ (blockSize * suc at ≤ length (now book)) × Cut (now front) end ⌝ }
-    ensures { λ r. ⌜ Works (now (book .entry)) (now (book .exit)) at (cleared (now (front .entry)) end) (runOf run) (pieceOf slab (now (corners .entry))) r ⌝ }
+    ensures { λ r. ⌜ Works (now (book .entry)) (now (book .exit)) at (firstBytes (now (front .entry)) end) (runOf run) (pieceOf slab (now (corners .entry))) r ⌝ }
 {
     let code = match coded(verdict(run, slab, corners)) {
         Coded::Refused(x) => return Asked::Refused(x),
@@ -56,7 +56,7 @@ fn work(
 
 // A good run asks: what is remembered is answered only of a good piece.
 fn answer(book: &mut [u8], run: Run, slab: Slab, corners: &[i32], front: &mut [u8]) -> Asked
-    requires { ⌜ Slots (now book) × Ready (runOf run) (now front) ⌝ }
+    requires { ⌜ Slots (now book) × Layable (runOf run) (now front) ⌝ }
     ensures { λ r. ⌜ AskSays (now (book .entry)) (now (book .exit)) (runOf run) (pieceOf slab (now (corners .entry))) r ⌝ }
 {
     let end = lay(run, slab, corners, front);

@@ -15,7 +15,7 @@ ghost use Rattle.good.specs.Numbers.{runOf};
 ghost use Rattle.whole.specs.Decide.{Decides};
 ghost use Rattle.seal.specs.Seal.{blockSize, filled, blockOf, blockAt};
 ghost use Rattle.book.specs.Entry.{codeAt, four};
-ghost use Rattle.book.specs.Steps.{CodeBytes, Cut, cleared, Recalls, Keeps};
+ghost use Rattle.book.specs.Steps.{CodeBytes, Cut, firstBytes, Recalls, Keeps};
 
 // What a slot remembers of a question.
 pub(crate) enum Memory {
@@ -56,7 +56,7 @@ fn is_entry(slot: &[u8], first: &[u8], code: u32) -> bool
 
 fn recall(slot: &[u8], front: &[u8], end: usize, run: Run) -> Memory
     requires { ⌜ (length (now slot) ≡ blockSize) × (Cut (now front) end × Ticks (run .ticks)) ⌝ }
-    ensures { λ r. ⌜ Recalls (now (slot .entry)) (cleared (now (front .entry)) end) (runOf run) r ⌝ }
+    ensures { λ r. ⌜ Recalls (now (slot .entry)) (firstBytes (now (front .entry)) end) (runOf run) r ⌝ }
 {
     let code = code_in(slot);
     if code != NONE {
@@ -73,7 +73,7 @@ fn recall(slot: &[u8], front: &[u8], end: usize, run: Run) -> Memory
 
 pub(crate) fn look(book: &[u8], at: usize, front: &[u8], end: usize, run: Run) -> Memory
     requires { ⌜ (blockSize * suc at ≤ length (now book)) × (Cut (now front) end × Ticks (run .ticks)) ⌝ }
-    ensures { λ r. ⌜ Recalls (blockAt (now (book .entry)) at) (cleared (now (front .entry)) end) (runOf run) r ⌝ }
+    ensures { λ r. ⌜ Recalls (blockAt (now (book .entry)) at) (firstBytes (now (front .entry)) end) (runOf run) r ⌝ }
 {
     let from = SIZE * at;
     let to = from + SIZE;
@@ -83,7 +83,7 @@ pub(crate) fn look(book: &[u8], at: usize, front: &[u8], end: usize, run: Run) -
 // The slot becomes the entry.
 pub(crate) fn keep(book: &mut [u8], at: usize, front: &[u8], end: usize, code: u32)
     requires { ⌜ (blockSize * suc at ≤ length (now book)) × Cut (now front) end ⌝ }
-    ensures { λ _. ⌜ Keeps (now (book .entry)) (now (book .exit)) at (cleared (now (front .entry)) end) code ⌝ }
+    ensures { λ _. ⌜ Keeps (now (book .entry)) (now (book .exit)) at (firstBytes (now (front .entry)) end) code ⌝ }
 {
     let from = SIZE * at;
     let to = from + SIZE;

@@ -8,7 +8,7 @@ use lib.IntN.{ℤ}
 use lib.ListN.{length}
 use Rattle.rules.specs.Reach.{Run, Piece}
 use Rattle.rules.specs.Ring.{Pt}
-use Rattle.rules.specs.Refusal.{Refusal, refuse, Check, Passes, Fault, demand, each, rows, inBlock}
+use Rattle.rules.specs.Refusal.{Refusal, refuse, Check, Passes, Fault, demand, each, inTurn, inBlock}
 use Rattle.rules.specs.Good.{Sized, runChecks, sizedCheck, bandCheck, shapeChecks, footprintChecks, pieceChecks}
 use Rattle.rules.specs.Place.{placeChecks}
 use Rattle.rules.specs.Verdict.{verdictChecks}
@@ -58,15 +58,15 @@ asks h = demands (omega arith) (omega arith) (omega arith)
 scans : {Bad : ℕ → Type 0} {m n : ℕ} {at : ℕ → ℕ} {cs : List Check} → n < 2 ^ 8 → ((i : ℕ) → i < m → at i < 2 ^ 24) → AllFit cs → AllFit (each Bad m (λ i. refuse n (at i) 0) ∷ cs)
 scans {Bad} {m} {n} {at} h k g = first (record { fits = λ s f. subst Fits (sym (f .2)) (small n (at (f .0)) 0 h (k (f .0) (f .1 .below)) (omega arith)) }) (λ p. g)
 
-row : (cs ds : List Check) → AllFit cs → (Passes cs → AllFit ds) → AllFit (cs ++ ds)
-row [] ds f g = g tt
-row (c ∷ cs) ds f g =
-    first (record { fits = λ s k. f .fits s (inl k) }) (λ p. row cs ds (record { fits = λ s k. f .fits s (inr (p, k)) }) (λ q. g (p, q)))
+fit-append : (cs ds : List Check) → AllFit cs → (Passes cs → AllFit ds) → AllFit (cs ++ ds)
+fit-append [] ds f g = g tt
+fit-append (c ∷ cs) ds f g =
+    first (record { fits = λ s k. f .fits s (inl k) }) (λ p. fit-append cs ds (record { fits = λ s k. f .fits s (inr (p, k)) }) (λ q. g (p, q)))
 
-pub fit-rows : (f : ℕ → List Check) (n : ℕ) → ((i : ℕ) → i < n → AllFit (f i)) → AllFit (rows f n)
-unfolding rows
-fit-rows f zero h = none
-fit-rows f (suc n) h = row (rows f n) (f n) (fit-rows f n (λ i k. h i (omega arith))) (λ p. h n (omega arith))
+pub fit-in-turn : (f : ℕ → List Check) (n : ℕ) → ((i : ℕ) → i < n → AllFit (f i)) → AllFit (inTurn f n)
+unfolding inTurn
+fit-in-turn f zero h = none
+fit-in-turn f (suc n) h = fit-append (inTurn f n) (f n) (fit-in-turn f n (λ i k. h i (omega arith))) (λ p. h n (omega arith))
 
 -- ---- runs, footprints and pieces
 pub fit-run : (r : Run) → AllFit (runChecks r)
@@ -93,7 +93,7 @@ fit-piece k = asks (omega arith) (λ z. scans (omega arith) (λ i h. omega arith
 
 pub fit-verdict : (r : Run) (k : Piece) → AllFit (verdictChecks r k)
 unfolding verdictChecks
-fit-verdict r k = row (runChecks r) (pieceChecks k) (fit-run r) (λ p. fit-piece k)
+fit-verdict r k = fit-append (runChecks r) (pieceChecks k) (fit-run r) (λ p. fit-piece k)
 
 pub fit-ask : (book : List ℕ) (r : Run) (k : Piece) → AllFit (askChecks book r k)
 unfolding askChecks
@@ -107,14 +107,14 @@ fit-block l = asks (omega arith) (λ p. asks (omega arith) (λ p. none))
 pub fit-header : (l : List ℕ) → AllFit (headerChecks l)
 unfolding headerChecks headerBytes
 fit-header l =
-    row (blockChecks l) (headerBytes l) (fit-block l)
+    fit-append (blockChecks l) (headerBytes l) (fit-block l)
     (λ p. scans (omega arith) (λ i h. omega arith)
     (asks (omega arith) (λ p. asks (omega arith) (λ p. scans (omega arith) (λ i h. omega arith) none))))
 
 -- a block's own bytes, and then what is inside
 module _ {A : Type 0} (l : List ℕ) (bytes : List Check) (In : A → Type 0) (cs : A → List Check) where
   fit-inside : AllFit bytes → ((a : A) → AllFit (cs a)) → AllFit ((blockChecks l ++ bytes) ++ (inside In cs ∷ []))
-  fit-inside f h = row (blockChecks l ++ bytes) _ (row (blockChecks l) bytes (fit-block l) (λ p. f)) (λ p. last (record { fits = λ s g. h (g .0) .fits s (g .2) }))
+  fit-inside f h = fit-append (blockChecks l ++ bytes) _ (fit-append (blockChecks l) bytes (fit-block l) (λ p. f)) (λ p. last (record { fits = λ s g. h (g .0) .fits s (g .2) }))
 
 pub fit-run-block : (l : List ℕ) → AllFit (runBlockChecks l)
 unfolding runBlockChecks runBytes
@@ -144,17 +144,17 @@ in-block image n s h k =
 
 fit-head : (image : List ℕ) → AllFit (headChecks image)
 unfolding headChecks
-fit-head image = asks (omega arith) (λ p. row (headerChecks (blockAt image 0)) _ (fit-header (blockAt image 0)) (λ p. asks (omega arith) (λ p. none)))
+fit-head image = asks (omega arith) (λ p. fit-append (headerChecks (blockAt image 0)) _ (fit-header (blockAt image 0)) (λ p. asks (omega arith) (λ p. none)))
 
 fit-room : (image : List ℕ) → AllFit (roomChecks image)
 unfolding roomChecks
 fit-room image =
-    row (headChecks image) (piecesCheck pieceBlockChecks image ∷ []) (fit-head image)
+    fit-append (headChecks image) (piecesCheck pieceBlockChecks image ∷ []) (fit-head image)
     (λ p. last (record { fits = λ s f. subst Fits (sym (f .same)) (in-block image (f .piece) (f .refusal) (omega (arith, head-few image p, f .below)) (f .fault)) }))
 
 pub fit-verdicts : (r : Run) (image list : List ℕ) → AllFit (verdictsChecks r image list)
 unfolding verdictsChecks
-fit-verdicts r image list = row (runChecks r) _ (fit-run r) (λ p. row (roomChecks image) _ (fit-room image) (λ p. asks (omega arith) (λ p. none)))
+fit-verdicts r image list = fit-append (runChecks r) _ (fit-run r) (λ p. fit-append (roomChecks image) _ (fit-room image) (λ p. asks (omega arith) (λ p. none)))
 
 pub fit-step : (image : List ℕ) (place : ℕ) (x : Refusal) → StepFault image place x → Fits x
 fit-step image place x (head f) = fit-head image .fits x f
@@ -170,15 +170,15 @@ unfolding obj.decimalChecks
 fit-decimal d a b h k = demands (omega arith) h k (λ p. demands (omega arith) h k (λ p. none))
 
 fit-point : (ps : List Point) (i : ℕ) → i < 2 ^ 24 → AllFit (obj.pointChecks ps i)
-fit-point ps i h = row (obj.decimalChecks _ i 0) (obj.decimalChecks _ i 1) (fit-decimal _ i 0 h (omega arith)) (λ p. fit-decimal _ i 1 h (omega arith))
+fit-point ps i h = fit-append (obj.decimalChecks _ i 0) (obj.decimalChecks _ i 1) (fit-decimal _ i 0 h (omega arith)) (λ p. fit-decimal _ i 1 h (omega arith))
 
 fit-drawn : (k : List ℤ → Piece) (size : ℕ) (ps : List Point) → length ps < 2 ^ 24 → AllFit (obj.cornersChecks k size ps)
 unfolding obj.cornersChecks
 fit-drawn k size ps h =
-    row (obj.pointsChecks ps (length ps)) _ (fit-rows (obj.pointChecks ps) (length ps) (λ i g. fit-point ps i (omega arith)))
-    (λ p. row (pieceChecks (k (obj.corners ps))) _ (fit-piece (k (obj.corners ps))) (λ p. asks (omega arith) (λ p. none)))
+    fit-append (obj.pointsChecks ps (length ps)) _ (fit-in-turn (obj.pointChecks ps) (length ps) (λ i g. fit-point ps i (omega arith)))
+    (λ p. fit-append (pieceChecks (k (obj.corners ps))) _ (fit-piece (k (obj.corners ps))) (λ p. asks (omega arith) (λ p. none)))
 
-fit-face : (k : List ℤ → Piece) (size : ℕ) (f : obj.Face) → ((ps : List Point) → f ≡ obj.drawn ps → length ps < 2 ^ 24) → AllFit (obj.faceChecks k size f)
+fit-face : (k : List ℤ → Piece) (size : ℕ) (f : obj.LastFace) → ((ps : List Point) → f ≡ obj.drawn ps → length ps < 2 ^ 24) → AllFit (obj.faceChecks k size f)
 fit-face k size obj.none h = asks (omega arith) (λ p. none)
 fit-face k size (obj.drawn ps) h = fit-drawn k size ps (h ps refl)
 
@@ -186,7 +186,7 @@ pub fit-obj : (file : List ℕ) (k : List ℤ → Piece) (size : ℕ) → AllFit
 unfolding obj.objChecks
 fit-obj file k size =
     asks (omega arith) λ short.
-    row (obj.linesChecks file (length (lines file))) _ (fit-rows (obj.lineChecks file) (length (lines file)) (λ i h. fit-line file i (omega (arith, lines-few file))))
+    fit-append (obj.linesChecks file (length (lines file))) _ (fit-in-turn (obj.lineChecks file) (length (lines file)) (λ i h. fit-line file i (omega (arith, lines-few file))))
     (λ p. fit-face k size (obj.faceIn file (length (lines file))) (λ ps e. omega (arith, face-few file (length (lines file)) ps e)))
 
 -- a lent list that is too short

@@ -11,7 +11,7 @@ use Rattle.whole.proofs.Polynomial.{vars4, vars7, vars8, poly, by-ring}
 use Rattle.rules.specs.Ring.{Pt}
 use Rattle.rules.specs.Place.{Straddles, rightward, leftward, Above}
 use Rattle.decide.specs.Side.{sideOf, side}
-use Rattle.decide.proofs.Segment.{mean-times, mean-at, gap-at, turn-o}
+use Rattle.decide.proofs.Segment.{mean-times, mean-at, gap-at, side-turned}
 use Rattle.decide.specs.Crossing.{counts, crosses}
 use Rattle.decide.proofs.On.{on-turn}
 
@@ -87,7 +87,7 @@ above-right p a b l r s = record {
 -- leftward is rightward from the other end
 above-left : (p a b : Pt) → b .x ≤ℤ p .x → p .x <ℤ a .x → pos 0 <ℤ sideOf a b p → Above p a b
 above-left p a b l r s =
-    let h = above-right p b a l r (rw (turn-o a b p) (turn-gt _ s)) in
+    let h = above-right p b a l r (rw (side-turned a b p) (turn-gt _ s)) in
     record { m = h .m; y = h .y; some = h .some; at = on-turn _ _ _ (h .at); above = h .above }
 
 pub yes-counted : (p a b : Pt) → crosses a b p ≡ true → Straddles p a b × Above p a b

@@ -169,14 +169,14 @@ swapped a b p q c = record {
 turn-side : (ax ay bx by px py : ℤ) → side bx by ax ay px py ≡ negℤ (side ax ay bx by px py)
 turn-side = vars6 _ λ ρ. simp poly (by-ring _ _ _ tt)
 
-pub turn-o : (a b p : Pt) → sideOf b a p ≡ negℤ (sideOf a b p)
-turn-o a b p = turn-side (a .x) (a .y) (b .x) (b .y) (p .x) (p .y)
+pub side-turned : (a b p : Pt) → sideOf b a p ≡ negℤ (sideOf a b p)
+side-turned a b p = turn-side (a .x) (a .y) (b .x) (b .y) (p .x) (p .y)
 
 turned : (a b p q : Pt) → Common b a p q → Common a b p q
 turned a b p q c = flipped p q a b (swapped p q a b (flipped b a p q c))
 
 on-down : (a b p q : Pt) → sideOf a b p ≡ pos 0 → b .x <ℤ a .x → b .x ≤ℤ p .x → p .x ≤ℤ a .x → Common a b p q
-on-down a b p q z h k l = turned a b p q (on-up b a p q (turn-o a b p ∙ ap negℤ z) h k l)
+on-down a b p q z h k l = turned a b p q (on-up b a p q (side-turned a b p ∙ ap negℤ z) h k l)
 
 lt-trans : (u v w : ℤ) → u <ℤ v → v <ℤ w → u <ℤ w
 lt-trans = all3 _ λ a a′ b b′ c c′. simp ring (omega arith)
@@ -382,7 +382,7 @@ neg-opp u v s t e f (fall h k) = rise (rw e (turn-ge u h)) (rw f (turn-le v k))
 
 crossing : (a b p q : Pt) → Opp (sideOf a b p) (sideOf a b q) → Opp (sideOf p q a) (sideOf p q b) → Tri (sideOf a b p) (sideOf a b q) → Apart a b p q ⊎ Common a b p q
 crossing a b p q m k (less h) = inr (meet a b p q m k h)
-crossing a b p q m k (more h) = inr (swapped a b p q (meet a b q p (turn-opp _ _ m) (neg-opp _ _ _ _ (turn-o p q a) (turn-o p q b) k) h))
+crossing a b p q m k (more h) = inr (swapped a b p q (meet a b q p (turn-opp _ _ m) (neg-opp _ _ _ _ (side-turned p q a) (side-turned p q b) k) h))
 crossing a b p q m k (same e) =
     let f = level _ _ m e in
     let g = level _ _ k (other-eq (sideOf a b p) (sideOf a b q) (sideOf p q a) (sideOf p q b) (sum4 (a .x) (a .y) (b .x) (b .y) (p .x) (p .y) (q .x) (q .y)) e) in

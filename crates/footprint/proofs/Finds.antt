@@ -19,7 +19,7 @@ use Rattle.refusal.proofs.Finds.{finds-after, finds-past}
 use Rattle.footprint.specs.Shape.{Stray, back, Bend, Drawing}
 use Rattle.footprint.proofs.Back.{back-below, next-back}
 use Rattle.whole.proofs.Decide.{none-found}
-use Rattle.rules.proofs.Checks.{first-found, sharp-demand}
+use Rattle.rules.proofs.Checks.{first-found, definite-demand}
 
 -- ---- folds
 pub bend-folds : (r : Ring) (i : ℕ) → i < r .size → ((j : ℕ) → j < r .size → Same r j → ⊥) → Bend r i → Folds r i
@@ -83,4 +83,4 @@ footprint-finds l r h f = finds-after (sizedCheck l) (shapeChecks l) r h f
 
 pub footprint-shape : (l : List ℤ) (r : Checked) → Sized l → Finds (footprintChecks l) r → Finds (shapeChecks l) r
 unfolding footprintChecks sizedCheck
-footprint-shape l r h f = finds-past (sizedCheck l) (shapeChecks l) (sharp-demand (Sized l) _) r h f
+footprint-shape l r h f = finds-past (sizedCheck l) (shapeChecks l) (definite-demand (Sized l) _) r h f

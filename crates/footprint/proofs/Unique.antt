@@ -7,13 +7,13 @@ use Rattle.whole.specs.Decide.{Decides}
 use Rattle.whole.proofs.Decide.{decides-one}
 use Rattle.rules.specs.Reach.{Reach}
 use Rattle.rules.specs.Good.{Sized, footprintChecks}
-use Rattle.rules.proofs.Good.{sharp-footprint}
+use Rattle.rules.proofs.Good.{definite-footprint}
 use Rattle.refusal.specs.declared.Checked.{Checked}
 use Rattle.refusal.specs.Said.{Finds}
 use Rattle.refusal.proofs.Unique.{finds-one}
 
 pub check-footprint-one : (l : List ℤ) (r s : Checked) → Finds (footprintChecks l) r → Finds (footprintChecks l) s → r ≡ s
-check-footprint-one l = finds-one (footprintChecks l) (sharp-footprint l)
+check-footprint-one l = finds-one (footprintChecks l) (definite-footprint l)
 
 pub sized-one : (l : List ℤ) (r s : Bool) → Decides (Sized l) r → Decides (Sized l) s → r ≡ s
 sized-one l = decides-one (Sized l)

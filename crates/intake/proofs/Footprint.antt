@@ -13,7 +13,7 @@ use Rattle.whole.specs.Front.{Front, fronted}
 use Rattle.whole.proofs.Front.{front-made}
 use Rattle.rules.specs.Reach.{Corners}
 use Rattle.rules.specs.Refusal.{Passes, Fault}
-use Rattle.rules.proofs.Checks.{rows-pass}
+use Rattle.rules.proofs.Checks.{in-turn-pass}
 use Rattle.refusal.specs.Said.{said, Finds}
 use Rattle.refusal.specs.declared.Refusal.{Refusal}
 use Rattle.refusal.specs.declared.Refusal.the-variants.{Corners as Corners', Short}
@@ -59,7 +59,7 @@ module _ (cs : List Corner) (i : ℕ) (l : List ℤ) (x y : ℤ) where
 
 -- ---- what the checks find
 pub holds-pass : (cs : List Corner) (n : ℕ) (l : List ℤ) → HoldsCorners cs n l → Passes (cornersChecks cs n)
-holds-pass cs n l h = rows-pass _ n (λ i k. ((_, h .x i k), ((_, h .y i k), tt)))
+holds-pass cs n l h = in-turn-pass _ n (λ i k. ((_, h .x i k), ((_, h .y i k), tt)))
 
 -- ---- the checks of an intake, one after the other
 module _ (cs : List Corner) (n size : ℕ) where

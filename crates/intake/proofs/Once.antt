@@ -1,5 +1,5 @@
 -- At most one outcome for a footprint. Assumes nothing.
-use mathlib.Core.Path.{_≡_, refl, sym, ap, subst, _∙_}
+use mathlib.Core.Path.{_≡_, sym, subst, _∙_}
 use mathlib.Core.Logic.{_⊎_, inl, inr, ⊎-elim}
 use mathlib.Core.List.{List}
 use Prim.Native.Nat.{ℕ, _+_, _*_, _/_, _≤_, _<_}
@@ -13,7 +13,7 @@ use Rattle.whole.proofs.Order.{ℕ-or}
 use Rattle.rules.specs.Reach.{Corners}
 use Rattle.rules.specs.Refusal as rules
 use Rattle.rules.specs.Refusal.{refuse}
-use Rattle.rules.proofs.Checks.{Sharp, AllSharp, sharp-demand, sharp-rows}
+use Rattle.rules.proofs.Checks.{Definite, AllDefinite, definite-demand, definite-in-turn}
 use Rattle.refusal.specs.declared.Checked.{Checked}
 use Rattle.refusal.specs.declared.Checked.the-variants.{Good, Refused}
 use Rattle.intake.specs.declared.Corner.{Corner}
@@ -30,19 +30,19 @@ one-row (OffGrid w) a b r s h i = h ∙ sym i
 one-row NotNumber a b r s h i = h ∙ sym i
 one-row Beyond a b r s h i = h ∙ sym i
 
-sharp-number : (x : Float) (a b : ℕ) → Sharp (numberCheck x a b)
-sharp-number x a b =
+definite-number : (x : Float) (a b : ℕ) → Definite (numberCheck x a b)
+definite-number x a b =
     record {
       never = λ r p f. subst (λ (t : Taken). Row t a b r) (one-answer x (f .0) (Grid (p .0)) (f .1) (p .1)) (f .2);
       one = λ r s f g. one-row (g .0) a b r s (subst (λ (t : Taken). Row t a b r) (one-answer x (f .0) (g .0) (f .1) (g .1)) (f .2)) (g .2);
     }
 
-sharp-corners : (cs : List Corner) (n : ℕ) → AllSharp (cornersChecks cs n)
-sharp-corners cs = sharp-rows _ λ a. let c = cornerAt cs a in (sharp-number (c .x) a 0, (sharp-number (c .y) a 1, tt))
+definite-corners : (cs : List Corner) (n : ℕ) → AllDefinite (cornersChecks cs n)
+definite-corners cs = definite-in-turn _ λ a. let c = cornerAt cs a in (definite-number (c .x) a 0, (definite-number (c .y) a 1, tt))
 
-pub sharp-intake : (cs : List Corner) (n size : ℕ) → AllSharp (intakeChecks cs n size)
+pub definite-intake : (cs : List Corner) (n size : ℕ) → AllDefinite (intakeChecks cs n size)
 unfolding intakeChecks
-sharp-intake cs n size = (sharp-demand (Corners n) (refuse 5 0 0), (sharp-demand (2 * n ≤ size) (refuse 10 0 0), sharp-corners cs n))
+definite-intake cs n size = (definite-demand (Corners n) (refuse 5 0 0), (definite-demand (2 * n ≤ size) (refuse 10 0 0), definite-corners cs n))
 
 same-grid : (x : Float) (j k : ℤ) → Answer x (Grid j) → Answer x (Grid k) → j ≡ k
 same-grid x j k h i = let e : Grid j ≡ Grid k = one-answer x (Grid j) (Grid k) h i in cc
@@ -69,9 +69,9 @@ module _ (cs : List Corner) (n : ℕ) (before l m : List ℤ) where
   -- two outcomes, answer and later list, that both meet the contract are equal
   pub one-intake : (r s : Checked) → Intake cs n before r l → Intake cs n before s m → (r ≡ s) × (l ≡ m)
   one-intake r s h i =
-      let e : r ≡ s = finds-one (intakeChecks cs n (length before)) (sharp-intake cs n (length before)) r s (h .finds) (i .finds) in
+      let e : r ≡ s = finds-one (intakeChecks cs n (length before)) (definite-intake cs n (length before)) r s (h .finds) (i .finds) in
       (e, one-later s (subst (λ (q : Checked). Later cs n before q l) e (h .list)) (i .list))
 
 -- numbers into a lent list
 pub put-one : (numbers before a b : List ℤ) (r s : Checked) → Put numbers before r a → Put numbers before s b → (r ≡ s) × (a ≡ b)
-put-one numbers before = writes-one (putChecks numbers before) (sharp-demand _ _, tt) (fronted numbers before) before
+put-one numbers before = writes-one (putChecks numbers before) (definite-demand _ _, tt) (fronted numbers before) before

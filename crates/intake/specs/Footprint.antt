@@ -8,7 +8,7 @@ use lib.Ieee.{Float, nan}
 use Rattle.whole.specs.Front.{Stays, fronted}
 use Rattle.rules.specs.Reach.{Corners}
 use Rattle.rules.specs.Refusal as rules
-use Rattle.rules.specs.Refusal.{Check, Fault, demand, refuse, rows}
+use Rattle.rules.specs.Refusal.{Check, Fault, demand, refuse, inTurn}
 use Rattle.refusal.specs.Said.{said, Finds, Writes}
 use Rattle.refusal.specs.declared.Refusal.{Refusal}
 use Rattle.refusal.specs.declared.Checked.{Checked}
@@ -41,7 +41,7 @@ cornerAt cs a = getD cs a (record { x = nan; y = nan })
 
 -- corner by corner, the first n
 abbrev pub cornersChecks : List Corner → ℕ → List Check
-cornersChecks cs n = rows (λ a. cornerChecks (cornerAt cs a) a) n
+cornersChecks cs n = inTurn (λ a. cornerChecks (cornerAt cs a) a) n
 
 -- the checks of an intake of n corners into a list of some length, in their order
 unfoldable pub intakeChecks : List Corner → ℕ → ℕ → List Check

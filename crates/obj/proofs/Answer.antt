@@ -19,7 +19,7 @@ use Rattle.obj.specs.declared.Outline.the-variants.{Corners, Refused}
 use Rattle.line.specs.Text.{lines}
 use Rattle.line.specs.Number.{gridded}
 use Rattle.line.specs.Line.{Point}
-use Rattle.obj.specs.File.{Face, none, drawn, faceIn, linesChecks, pointsChecks, corners, cornersChecks, faceChecks, objChecks, ObjSays}
+use Rattle.obj.specs.File.{LastFace, none, drawn, faceIn, linesChecks, pointsChecks, corners, cornersChecks, faceChecks, objChecks, ObjSays}
 use Rattle.obj.specs.Steps.{Gathered, drawChecks, Draws}
 use Rattle.obj.proofs.Table.{flat-size}
 
@@ -30,7 +30,7 @@ count file = length (lines file)
 abbrev Lined : List ℕ → Type 0
 Lined file = Passes (linesChecks file (count file))
 
-abbrev FaceIs : List ℕ → Face → Type 0
+abbrev FaceIs : List ℕ → LastFace → Type 0
 FaceIs file f = faceIn file (count file) ≡ f
 
 module _ (file : List ℕ) (k : List ℤ → Piece) (size : ℕ) where
@@ -45,7 +45,7 @@ module _ (file : List ℕ) (k : List ℤ → Piece) (size : ℕ) where
 
     -- every line passes
     module _ (lined : Lined file) where
-      face-fault : (f : Face) (r : rules.Refusal) → FaceIs file f → Fault (faceChecks k size f) r → Fault (objChecks file k size) r
+      face-fault : (f : LastFace) (r : rules.Refusal) → FaceIs file f → Fault (faceChecks k size f) r → Fault (objChecks file k size) r
       unfolding objChecks
       face-fault f r e g = inr (short, fault-right (linesChecks file (count file)) _ r lined (rw e g))
 

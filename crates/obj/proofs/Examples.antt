@@ -8,7 +8,7 @@ use lib.ListN.{length}
 use Rattle.line.specs.Text.{parts, unreturned, ended, lines, filled, words}
 use Rattle.line.specs.Number.{allDigits, amount, Decimal, isDecimal, decimal, gridded, isCorner, index}
 use Rattle.line.specs.Line.{Point, passed, other, face, same, among, allCorners, lineOf, names}
-use Rattle.obj.specs.File.{above, Face, none, drawn, faceIn, flat, corners}
+use Rattle.obj.specs.File.{above, LastFace, none, drawn, faceIn, flat, corners}
 
 -- what is computed, and what it is
 infix 70 _is_
@@ -23,7 +23,7 @@ AllTrue (x is y ∷ rs) = (x ≡ y) × AllTrue rs
 abbrev pub over : Bool → ℕ → ℕ → Decimal
 over s w n = record { negative = s; whole = w; places = n }
 
-abbrev pub pointsOf : Face → List Point
+abbrev pub pointsOf : LastFace → List Point
 pointsOf none = []
 pointsOf (drawn ps) = ps
 

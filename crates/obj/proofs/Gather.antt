@@ -12,8 +12,8 @@ use lib.IntN.{ℤ, pos}
 use lib.ListN.{length, getD, drop, length-set, length-map}
 use Rattle.whole.proofs.Order.{ℕ-or}
 use Rattle.whole.proofs.Flag.{and-yes, by-flag}
-use Rattle.rules.specs.Refusal.{Passes, rows}
-use Rattle.rules.proofs.Checks.{passes-append, passes-left, passes-right, rows-fault}
+use Rattle.rules.specs.Refusal.{Passes, inTurn}
+use Rattle.rules.proofs.Checks.{passes-append, passes-left, passes-right, in-turn-fault}
 use Rattle.refusal.specs.Said.{said, Finds}
 use Rattle.refusal.specs.declared.Refusal.{Refusal}
 use Rattle.refusal.specs.declared.Checked.{Checked}
@@ -67,7 +67,7 @@ pub record Part (ps : List Point) (i : ℕ) (list : List ℤ) : Type 0 where
   pub numbers : (j : ℕ) → j < 2 * i → j < 128 → getD list j (pos 0) ≡ getD (corners ps) j (pos 0)
 
 part-none : (ps : List Point) (list : List ℤ) → Part ps 0 list
-unfolding rows
+unfolding inTurn
 part-none ps list = record { passes = tt; numbers = λ j h k. absurd (omega arith) }
 
 module _ (ps : List Point) (i : ℕ) (list : List ℤ) (x y : ℤ) (h : i < length ps) (size : length list ≡ 128) (part : Part ps i list) where
@@ -82,7 +82,7 @@ module _ (ps : List Point) (i : ℕ) (list : List ℤ) (x y : ℤ) (h : i < leng
       (ℕ-or 64 i)
 
   part-more : x ≡ entry (p .x) → y ≡ entry (p .y) → Passes (pointChecks ps i) → Part ps (i + 1) (kept x y i list)
-  unfolding rows
+  unfolding inTurn
   part-more e f c =
       let a = passes-left (decimalChecks (p .x) i 0) (decimalChecks (p .y) i 1) c in
       let b = passes-right (decimalChecks (p .x) i 0) (decimalChecks (p .y) i 1) c in
@@ -198,7 +198,7 @@ module _ (line : List ℕ) (k : ℕ) (table list : List ℤ) (from to v i : ℕ)
       gather-fault r f vs ns q e t =
           let m : ns ≡ map index (g .all) = let d = g .face in cc in
           let l = ps vs q t in
-          rw m (rows-fault (pointChecks l) (said r) i (length l) (within vs q t) (g .part vs q t .passes) (fits (Refused r) f vs q t))
+          rw m (in-turn-fault (pointChecks l) (said r) i (length l) (within vs q t) (g .part vs q t .passes) (fits (Refused r) f vs q t))
 
       kept-part : FitBoth x y i Good → (vs : List Point) (q : k ≡ length vs) (t : Tabled vs table) → Part (ps vs q t) (i + 1) (kept x y i list)
       kept-part f vs q t = let n = numbers vs q t in part-more (ps vs q t) i list x y (within vs q t) (g .size) (g .part vs q t) (a ∙ n .0) (b ∙ n .1) (fits Good f vs q t)

@@ -8,14 +8,14 @@ use native.Mathlib.Omega.{arith}
 use native.Mathlib.Numerals.{add-one}
 use lib.IntN.{ℤ}
 use lib.ListN.{length, drop, set, length-append}
-use Rattle.rules.specs.Refusal.{Refusal, Passes, Fault, refuse, rows}
-use Rattle.rules.proofs.Checks.{passes-append, rows-fault}
+use Rattle.rules.specs.Refusal.{Refusal, Passes, Fault, refuse, inTurn}
+use Rattle.rules.proofs.Checks.{passes-append, in-turn-fault}
 use Rattle.obj.specs.declared.pass.Seen.{Seen}
 use Rattle.line.specs.Text.{feed, lines}
 use Rattle.line.specs.Line.{Point, Line, passed, other, vertex, face, lineOf, allNamed}
 use Rattle.obj.specs.File.{lineAt, more, above, none, faced, faceIn, lineChecks, linesChecks}
 use Rattle.line.specs.Calls.{part, entry, Until}
-use Rattle.obj.specs.Steps.{Tabled, FaceSeen, SeenTo, Ready, Gone, Scanned, Faced, lineFrom}
+use Rattle.obj.specs.Steps.{Tabled, FaceSeen, SeenTo, LineNext, Gone, Scanned, Faced, lineFrom}
 use Rattle.line.proofs.Told.{no}
 use Rattle.line.proofs.Parts.{drop-none, part-size}
 use Rattle.obj.proofs.Lines.{linesFrom, all-lines, no-lines, line-at}
@@ -136,7 +136,7 @@ module _ (file : List ℕ) (n : ℕ) (seen : Seen) (table : List ℤ) where
   face-seen false e f = no (cc)
 
 -- a vertex takes eight bytes with its feed, so the table has room for it
-pub vertex-room : (file : List ℕ) (at stop n : ℕ) (seen : Seen) (table : List ℤ) (p : Point) → Ready file at stop n seen table → lineAt file n ≡ vertex p
+pub vertex-room : (file : List ℕ) (at stop n : ℕ) (seen : Seen) (table : List ℤ) (p : Point) → LineNext file at stop n seen table → lineAt file n ≡ vertex p
     → (at + 7 ≤ stop) × (2 * seen .vertices + 1 < length table)
 vertex-room file at stop n seen table p r e =
     let l = vertex-long (part at stop file) p (ap lineOf (sym (r .line)) ∙ e) in
@@ -156,7 +156,7 @@ pub record Under (file : List ℕ) (table : List ℤ) (seen : Seen) (at n : ℕ)
   pub holds : SeenTo file n seen table
 
 pub under-start : (file : List ℕ) (table : List ℤ) → length table ≡ 16384 → Under file table (record { vertices = 0; face = false; from = 0; to = 0; above = 0 }) 0 0
-unfolding rows above faceIn
+unfolding inTurn above faceIn
 under-start file table h = record {
   size = h;
   place = omega arith;
@@ -177,8 +177,8 @@ module _ (file : List ℕ) (table : List ℤ) (seen : Seen) (at n : ℕ) (u : Un
       record { passes = rw e at (u .passes); room = let p = u .place in let r = u .room in omega arith; holds = rw e at (u .holds) }
 
   module _ (end stop : ℕ) (h : at ≤ length file) (f : Until feed file at end) where
-    pub under-ready : length file ≤ 65536 → at ≤ stop → stop ≤ end → part at stop file ≡ lineFrom file at end → Ready file at stop n seen table
-    under-ready short a b e =
+    pub under-line : length file ≤ 65536 → at ≤ stop → stop ≤ end → part at stop file ≡ lineFrom file at end → LineNext file at stop n seen table
+    under-line short a b e =
         let p = u .place in let m = u .number in let q = f .below in
         record {
           short = short;
@@ -192,10 +192,10 @@ module _ (file : List ℕ) (table : List ℤ) (seen : Seen) (at n : ℕ) (u : Un
         }
 
     pub under-fault : (r : Refusal) → Fault (lineChecks file n) r → Fault (linesChecks file (length (lines file))) r
-    under-fault r g = rows-fault (lineChecks file) r n (length (lines file)) (line-at file at end h f n (u .rest) .2) (u .passes) g
+    under-fault r g = in-turn-fault (lineChecks file) r n (length (lines file)) (line-at file at end h f n (u .rest) .2) (u .passes) g
 
     pub under-next : (after : List ℤ) (next : Seen) → stop ≤ end → length after ≡ length table → Gone file stop n next after → Under file after next (end + 1) (n + 1)
-    unfolding rows
+    unfolding inTurn
     under-next after next b e g =
         let p = u .place in let m = u .number in let a = f .above in let q = f .below in let z = u .size in let w = g .room in
         let s = add-one n in

@@ -8,7 +8,7 @@ use lib.ListN.{length, getD}
 use Rattle.whole.specs.Fraction.{_≈_}
 use Rattle.whole.specs.Front.{fronted}
 use Rattle.rules.specs.Reach.{Piece}
-use Rattle.rules.specs.Refusal.{Check, Passes, Fault, demand, refuse, rows}
+use Rattle.rules.specs.Refusal.{Check, Passes, Fault, demand, refuse, inTurn}
 use Rattle.rules.specs.Good.{pieceChecks}
 use Rattle.refusal.specs.Said.{said}
 use Rattle.grid.specs.Number.{grid, Within}
@@ -41,17 +41,17 @@ abbrev pub points : List Point → List ℤ → List Point
 points vs ns = map (λ n. getD vs (names (length vs) n) nowhere) ns
 
 -- the face of the first n lines, the last where there are more, by its corners
-pub data Face : Type 0 where
-  none : Face
-  drawn : List Point → Face
+pub data LastFace : Type 0 where
+  none : LastFace
+  drawn : List Point → LastFace
 
-abbrev pub faced : List Point → Face → Line → Face
+abbrev pub faced : List Point → LastFace → Line → LastFace
 faced vs f (face ns) = drawn (points vs ns)
 faced vs f (vertex p) = f
 faced vs f passed = f
 faced vs f other = f
 
-unfoldable pub faceIn : List ℕ → ℕ → Face
+unfoldable pub faceIn : List ℕ → ℕ → LastFace
 faceIn file zero = none
 faceIn file (suc n) = faced (above file n) (faceIn file n) (lineAt file n)
 
@@ -76,7 +76,7 @@ lineChecks file i =
 
 -- line by line, the first n
 abbrev pub linesChecks : List ℕ → ℕ → List Check
-linesChecks file n = rows (lineChecks file) n
+linesChecks file n = inTurn (lineChecks file) n
 
 -- a number is within the intake's reach, and on its grid
 unfoldable pub decimalChecks : Decimal → ℕ → ℕ → List Check
@@ -87,7 +87,7 @@ abbrev pub pointChecks : List Point → ℕ → List Check
 pointChecks ps a = let p = getD ps a nowhere in decimalChecks (p .x) a 0 ++ decimalChecks (p .y) a 1
 
 abbrev pub pointsChecks : List Point → ℕ → List Check
-pointsChecks ps n = rows (pointChecks ps) n
+pointsChecks ps n = inTurn (pointChecks ps) n
 
 -- a number for each x and y of points, x, y, x, y ..
 unfoldable pub flat : (Decimal → ℤ) → List Point → List ℤ
@@ -103,7 +103,7 @@ unfoldable pub cornersChecks : (List ℤ → Piece) → ℕ → List Point → L
 cornersChecks k size ps = pointsChecks ps (length ps) ++ (pieceChecks (k (corners ps)) ++ (demand (2 * length ps ≤ size) (refuse 10 0 0) ∷ []))
 
 -- of the face, which there must be
-abbrev pub faceChecks : (List ℤ → Piece) → ℕ → Face → List Check
+abbrev pub faceChecks : (List ℤ → Piece) → ℕ → LastFace → List Check
 faceChecks k size none = demand ⊥ (refuse 16 0 0) ∷ []
 faceChecks k size (drawn ps) = cornersChecks k size ps
 

@@ -56,7 +56,7 @@ pub record SeenTo (file : List ℕ) (n : ℕ) (seen : Seen) (table : List ℤ) :
   pub face : FaceSeen file n seen table (seen .face)
 
 -- line n stands from here up to there, and those before it were seen
-pub record Ready (file : List ℕ) (at stop n : ℕ) (seen : Seen) (table : List ℤ) : Type 0 where
+pub record LineNext (file : List ℕ) (at stop n : ℕ) (seen : Seen) (table : List ℤ) : Type 0 where
   pub short : length file ≤ 65536
   pub order : at ≤ stop
   pub below : stop ≤ length file

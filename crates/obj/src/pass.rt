@@ -7,7 +7,7 @@ use refusal::Refusal;
 ghost use mathlib.Core.Path.{_≡_};
 ghost use Prim.Native.Nat.{_≤_};
 ghost use lib.ListN.{length};
-ghost use Rattle.obj.specs.Steps.{Ready, Stepping, Scans};
+ghost use Rattle.obj.specs.Steps.{LineNext, Stepping, Scans};
 
 // What was seen of a file: how many vertices; whether a face, its line from here up to there, and how many vertices above it.
 pub(crate) struct Seen {
@@ -25,7 +25,7 @@ pub(crate) enum Stepped {
 
 // A line of the file: 14, then 16, then 15; a vertex takes two places of the table.
 fn step(file: &[u8], at: usize, stop: usize, line: usize, seen: Seen, table: &mut [i32]) -> Stepped
-    requires { ⌜ Ready (now file) at stop line seen (now table) ⌝ }
+    requires { ⌜ LineNext (now file) at stop line seen (now table) ⌝ }
     ensures { λ r. ⌜ Stepping (now (file .entry)) stop line (now (table .exit)) r ⌝ }
     ensures { λ r. ⌜ length (now (table .exit)) ≡ length (now (table .entry)) ⌝ }
 {

@@ -6,14 +6,14 @@ use lib.IntN.{ℤ}
 use lib.ListN.{length}
 use Rattle.rules.specs.Refusal.{Passes}
 use Rattle.rules.proofs.Reach.{between-stable}
-use Rattle.rules.proofs.Checks.{sharp-demand, never-both}
+use Rattle.rules.proofs.Checks.{definite-demand, never-both}
 use Rattle.refusal.specs.Said.{said}
 use Rattle.refusal.specs.declared.Checked.{Checked}
 use Rattle.refusal.specs.declared.Checked.the-variants.{Good, Refused}
 use Rattle.refusal.proofs.Unique.{written}
 use Rattle.pair.specs.Pair.{words, Halves, NumbersOf, pairedCheck, pairsAsked, WritePairsSays, ReadPairsSays}
 use Rattle.pair.proofs.Words.{numbers-one}
-use Rattle.pair.proofs.Unique.{sharp-pairs-asked}
+use Rattle.pair.proofs.Unique.{definite-pairs-asked}
 
 -- ---- writing
 pub pairs-pass : (l : List ℕ) (zs : List ℤ) → length l ≡ 2 * length zs → Halves zs → Passes (pairsAsked l zs)
@@ -25,12 +25,12 @@ unfolding pairsAsked
 pairs-halves l zs p j g = between-stable _ _ _ (p .1 .0 j g)
 
 pub pairs-written : (zs : List ℤ) (before after : List ℕ) (r : Checked) → WritePairsSays zs before after r → length before ≡ 2 * length zs → Halves zs → (r ≡ Good) × (after ≡ words zs)
-pairs-written zs before after r w e h = written (pairsAsked before zs) (sharp-pairs-asked before zs) (words zs) before after r w (pairs-pass before zs e h)
+pairs-written zs before after r w e h = written (pairsAsked before zs) (definite-pairs-asked before zs) (words zs) before after r w (pairs-pass before zs e h)
 
 -- ---- reading
 pub pairs-read : (l : List ℕ) (before after : List ℤ) (r : Checked) → ReadPairsSays l before after r → length l ≡ 2 * length before → (r ≡ Good) × NumbersOf l after
 pairs-read l before after Good f e = (refl, f .2)
-pairs-read l before after (Refused x) f e = absurd (never-both (pairedCheck l before ∷ []) (sharp-demand _ _, tt) (said x) (e, tt) (f .0))
+pairs-read l before after (Refused x) f e = absurd (never-both (pairedCheck l before ∷ []) (definite-demand _ _, tt) (said x) (e, tt) (f .0))
 
 -- ---- there and back
 pub read-back : (zs : List ℤ) (l made : List ℕ) (before after : List ℤ) → WritePairsSays zs l made Good → ReadPairsSays made before after Good → after ≡ zs

@@ -7,7 +7,7 @@ use lib.IntN.{ℤ}
 use lib.ListN.{length}
 use Rattle.whole.specs.Decide.{Seeks}
 use Rattle.rules.specs.Refusal.{Check as Test}
-use Rattle.rules.proofs.Checks.{AllSharp, only, sharp-demand, sharp-each, never-both}
+use Rattle.rules.proofs.Checks.{AllDefinite, only, definite-demand, definite-each, never-both}
 use Rattle.refusal.specs.Said.{said}
 use Rattle.refusal.specs.declared.Checked.{Checked}
 use Rattle.refusal.specs.declared.Checked.the-variants.{Good, Refused}
@@ -20,23 +20,23 @@ pub first-wide-one : (zs : List ℤ) (r s : ℕ) → Seeks (Wide zs) (length zs)
 first-wide-one zs r s f a g b = only r s (λ h. g .before r h (omega arith) (f .found (omega arith))) (λ h. f .before s h (omega arith) (g .found (omega arith)))
 
 -- ---- write_pairs
-pub sharp-pairs-asked : (l : List ℕ) (zs : List ℤ) → AllSharp (pairsAsked l zs)
+pub definite-pairs-asked : (l : List ℕ) (zs : List ℤ) → AllDefinite (pairsAsked l zs)
 unfolding pairsAsked
-sharp-pairs-asked l zs = (sharp-demand _ _, (sharp-each _ _ _, tt))
+definite-pairs-asked l zs = (definite-demand _ _, (definite-each _ _ _, tt))
 
 pub write-pairs-one : (zs : List ℤ) (before a b : List ℕ) (r s : Checked) → WritePairsSays zs before a r → WritePairsSays zs before b s → (r ≡ s) × (a ≡ b)
-write-pairs-one zs before a b r s = writes-one (pairsAsked before zs) (sharp-pairs-asked before zs) (words zs) before a b r s
+write-pairs-one zs before a b r s = writes-one (pairsAsked before zs) (definite-pairs-asked before zs) (words zs) before a b r s
 
 -- ---- read_pairs
 module _ (l : List ℕ) (before a b : List ℤ) where
   abbrev asked : List Test
   asked = pairedCheck l before ∷ []
 
-  sharp : AllSharp asked
-  sharp = (sharp-demand _ _, tt)
+  definite : AllDefinite asked
+  definite = (definite-demand _ _, tt)
 
   pub read-pairs-one : (r s : Checked) → ReadPairsSays l before a r → ReadPairsSays l before b s → (r ≡ s) × (a ≡ b)
   read-pairs-one Good Good f g = (refl, numbers-one l a b (f .2) (g .2))
-  read-pairs-one Good (Refused y) f g = absurd (never-both asked sharp (said y) (f .0) (g .0))
-  read-pairs-one (Refused x) Good f g = absurd (never-both asked sharp (said x) (g .0) (f .0))
-  read-pairs-one (Refused x) (Refused y) f g = (ap Refused (refused-one asked sharp x y (f .0) (g .0)), f .1 ∙ sym (g .1))
+  read-pairs-one Good (Refused y) f g = absurd (never-both asked definite (said y) (f .0) (g .0))
+  read-pairs-one (Refused x) Good f g = absurd (never-both asked definite (said x) (g .0) (f .0))
+  read-pairs-one (Refused x) (Refused y) f g = (ap Refused (refused-one asked definite x y (f .0) (g .0)), f .1 ∙ sym (g .1))

@@ -6,10 +6,10 @@ use lib.IntN.{ℤ}
 use lib.ListN.{length}
 use Rattle.rules.specs.Ring.{Pt, ring}
 use Rattle.rules.specs.Refusal.{Passes}
-use Rattle.rules.specs.Good.{sizedCheck, shapeChecks, footprintChecks}
+use Rattle.rules.specs.Good.{sizedCheck, footprintChecks}
 use Rattle.rules.specs.Reach.{Reach}
 use Rattle.rules.specs.Place.{placeChecks}
-use Rattle.rules.proofs.Reach.{between-stable}
+use Rattle.rules.proofs.Reach.{between-stable, shape-reach}
 use Rattle.footprint.specs.Shape.{HoldsRing, Corner}
 use Rattle.footprint.proofs.Outline.{corner-at}
 
@@ -20,12 +20,12 @@ pub record PlaceKnown (p : Pt) (l : List ℤ) : Type 0 where
   pub corners : (j : ℕ) → j < ring l .size → Corner l j
 
 pub place-known : (p : Pt) (l : List ℤ) → Passes (placeChecks p l) → PlaceKnown p l
-unfolding placeChecks footprintChecks sizedCheck shapeChecks
+unfolding placeChecks footprintChecks sizedCheck
 place-known p l h = record {
   x = between-stable _ _ _ (h .0 0 (omega arith));
   y = between-stable _ _ _ (h .0 1 (omega arith));
   holds = held;
-  corners = λ j b. corner-at l (ring l .size) (length l) j held (λ k a c. between-stable _ _ _ (h .1 .1 .0 k c)) (let e = held .whole in omega arith) b;
+  corners = λ j b. corner-at l (ring l .size) (length l) j held (λ k a c. shape-reach l (h .1 .1) k c) (let e = held .whole in omega arith) b;
 }
   where
     held : HoldsRing l (ring l .size)

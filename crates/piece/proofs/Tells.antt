@@ -9,8 +9,8 @@ use Rattle.rules.specs.Refusal.{Check, Passes, Fault}
 use Rattle.rules.specs.Good.{runChecks, pieceChecks}
 use Rattle.rules.specs.Verdict as rules
 use Rattle.rules.specs.Verdict.{Answer, clear, blocked, verdictChecks, NONE, answer}
-use Rattle.rules.proofs.Checks.{AllSharp, passes-left}
-use Rattle.rules.proofs.Good.{sharp-verdict}
+use Rattle.rules.proofs.Checks.{AllDefinite, passes-left}
+use Rattle.rules.proofs.Good.{definite-verdict}
 use Rattle.rules.proofs.Reach.{run-known}
 use Rattle.rules.proofs.Verdict.{one-verdict, mark-small, mark-answers}
 use Rattle.refusal.specs.declared.Refusal.{Refusal}
@@ -35,12 +35,12 @@ same (Mark m) = refl
 same (Refused x) = refl
 
 -- one verdict is told of what checks pass, where P says one answer
-pub verdict-one : (cs : List Check) → AllSharp cs → (P : Answer → Type 0) → ((a b : Answer) → P a → P b → a ≡ b)
+pub verdict-one : (cs : List Check) → AllDefinite cs → (P : Answer → Type 0) → ((a b : Answer) → P a → P b → a ≡ b)
     → (v w : Verdict) → Told cs P (answerOf v) → Told cs P (answerOf w) → v ≡ w
 verdict-one = told-one answerOf case same
 
 pub one-told : (r : Run) (k : Piece) (v w : Verdict) → Tells r k v → Tells r k w → v ≡ w
-one-told r k = verdict-one (verdictChecks r k) (sharp-verdict r k) (rules.Verdict r k) (one-verdict r k)
+one-told r k = verdict-one (verdictChecks r k) (definite-verdict r k) (rules.Verdict r k) (one-verdict r k)
 
 -- ---- codes
 -- a code that is told of a good run and a good piece

@@ -5,7 +5,7 @@ use mathlib.Core.List.{List}
 use lib.IntN.{ℤ}
 use Rattle.rules.specs.Ring.{Pt, ring}
 use Rattle.rules.specs.Place.{Where, on, inside, outside, Place, placeChecks}
-use Rattle.rules.proofs.Good.{sharp-place}
+use Rattle.rules.proofs.Good.{definite-place}
 use Rattle.decide.proofs.Parity.{one-place}
 use Rattle.refusal.specs.declared.Refusal.{Refusal}
 use Rattle.refusal.proofs.Unique.{told-one}
@@ -32,7 +32,7 @@ same Outside = refl
 same (Refused x) = refl
 
 pub place-one : (p : Pt) (l : List ℤ) (r s : Placed) → Lies p l r → Lies p l s → r ≡ s
-place-one p l = told-one placeOf case same (placeChecks p l) (sharp-place p l) (Place (ring l) p) (one-place (ring l) p)
+place-one p l = told-one placeOf case same (placeChecks p l) (definite-place p l) (Place (ring l) p) (one-place (ring l) p)
 
 pub coded-one : (v : Verdict) (r s : Coded) → r ≡ codedOf v → s ≡ codedOf v → r ≡ s
 coded-one v = equal-one (codedOf v)

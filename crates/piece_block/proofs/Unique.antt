@@ -23,14 +23,14 @@ use Rattle.piece_block.specs.Layout.{pieceBody, pieceBlock}
 use Rattle.piece_block.specs.Reading.{pieceBlockChecks, pieceBodyAsked, pieceAsked, HoldsPiece, PieceFound, PieceSays, WritePieceSays, WritePieceBodySays}
 use Rattle.piece_block.specs.Verdicts.{VerdictOn, verdictInChecks, VerdictInSays}
 use Rattle.piece_block.proofs.PieceLaws as pieces
-use Rattle.piece_block.proofs.OneFault.{sharp-piece-block, sharp-verdict-in, sharp-piece-body-asked, sharp-piece-asked}
+use Rattle.piece_block.proofs.OneFault.{definite-piece-block, definite-verdict-in, definite-piece-body-asked, definite-piece-asked}
 
 -- ---- writers
 pub write-piece-body-one : (k : Piece) (before a b : List ℕ) (r s : Checked) → WritePieceBodySays k before a r → WritePieceBodySays k before b s → (r ≡ s) × (a ≡ b)
-write-piece-body-one k before a b r s = writes-one (pieceBodyAsked before k) (sharp-piece-body-asked before k) (pieceBody k) before a b r s
+write-piece-body-one k before a b r s = writes-one (pieceBodyAsked before k) (definite-piece-body-asked before k) (pieceBody k) before a b r s
 
 pub write-piece-one : (k : Piece) (before a b : List ℕ) (r s : Checked) → WritePieceSays k before a r → WritePieceSays k before b s → (r ≡ s) × (a ≡ b)
-write-piece-one k before a b r s = writes-one (pieceAsked before k) (sharp-piece-asked before k) (pieceBlock k) before a b r s
+write-piece-one k before a b r s = writes-one (pieceAsked before k) (definite-piece-asked before k) (pieceBlock k) before a b r s
 
 -- ---- read_piece
 pub holds-one : (r s : PieceRead) (k : Piece) → r .found ≡ s .found → HoldsPiece r k → HoldsPiece s k → r ≡ s
@@ -47,10 +47,10 @@ found-one : (l : List ℕ) (r s : PieceRead) (x y : Checked) → r .found ≡ x 
 found-one l r s Good Good d e f g =
     let q = pieces.piece-one l (f .piece) (g .piece) (pieces.block-in l (f .piece) (f .same) (f .good)) (pieces.block-in l (g .piece) (g .same) (g .good)) in
     holds-one r s (g .piece) (d ∙ sym e) (subst (HoldsPiece r) q (f .holds)) (g .holds)
-found-one l r s Good (Refused y) d e f g = absurd (never-both (pieceBlockChecks l) (sharp-piece-block l) (said y) (pieces.block-passes l (f .piece) (f .same) (f .good)) (g .fault))
-found-one l r s (Refused x) Good d e f g = absurd (never-both (pieceBlockChecks l) (sharp-piece-block l) (said x) (pieces.block-passes l (g .piece) (g .same) (g .good)) (f .fault))
+found-one l r s Good (Refused y) d e f g = absurd (never-both (pieceBlockChecks l) (definite-piece-block l) (said y) (pieces.block-passes l (f .piece) (f .same) (f .good)) (g .fault))
+found-one l r s (Refused x) Good d e f g = absurd (never-both (pieceBlockChecks l) (definite-piece-block l) (said x) (pieces.block-passes l (g .piece) (g .same) (g .good)) (f .fault))
 found-one l r s (Refused x) (Refused y) d e f g =
-    holds-one r s _ (d ∙ ap Refused (refused-one (pieceBlockChecks l) (sharp-piece-block l) x y (f .fault) (g .fault)) ∙ sym e) (f .holds) (g .holds)
+    holds-one r s _ (d ∙ ap Refused (refused-one (pieceBlockChecks l) (definite-piece-block l) x y (f .fault) (g .fault)) ∙ sym e) (f .holds) (g .holds)
 
 pub read-piece-one : (l : List ℕ) (r s : PieceRead) → PieceSays l r → PieceSays l s → r ≡ s
 read-piece-one l r s f g = found-one l r s (r .found) (s .found) refl refl f g
@@ -76,4 +76,4 @@ module _ (r : rules.Run) (l : List ℕ) where
 
   pub verdict-in-one : (v w : told.Verdict) → VerdictInSays r l v → VerdictInSays r l w → v ≡ w
   verdict-in-one v w f g =
-      verdict-one (verdictInChecks r l) (sharp-verdict-in r l) (VerdictOn r l) verdict-on-one v w (as-told v f) (as-told w g)
+      verdict-one (verdictInChecks r l) (definite-verdict-in r l) (VerdictOn r l) verdict-on-one v w (as-told v f) (as-told w g)

@@ -9,8 +9,8 @@ use Rattle.rules.specs.Refusal.{Check, Passes, Fault}
 use Rattle.rules.specs.Good.{runChecks, pieceChecks}
 use Rattle.rules.specs.Verdict as rules
 use Rattle.rules.specs.Verdict.{Answer, clear, blocked, verdictChecks}
-use Rattle.rules.proofs.Checks.{sharp-demand, passes-left, passes-right, fault-left, fault-right, fault-past, fault-then}
-use Rattle.rules.proofs.Good.{sharp-run}
+use Rattle.rules.proofs.Checks.{definite-demand, passes-left, passes-right, fault-left, fault-right, fault-past, fault-then}
+use Rattle.rules.proofs.Good.{definite-run}
 use Rattle.refusal.specs.Said.{said}
 use Rattle.refusal.specs.declared.Refusal as enum
 use Rattle.refusal.specs.declared.Refusal.the-variants.{Length}
@@ -44,7 +44,7 @@ module _ (r : Run) (l : List ℕ) where
     -- where the run is good, a refusal is the block's
     pub block-refused : (x : enum.Refusal) → Passes (runChecks r) → VerdictInSays r l (Refused x) → Fault (pieceBlockChecks l) (said x)
     unfolding verdictInChecks first
-    block-refused x good f = fault-past first (pieceBlockChecks l) (sharp-demand _ _, sharp-run r) (said x) (long, good) f
+    block-refused x good f = fault-past first (pieceBlockChecks l) (definite-demand _ _, definite-run r) (said x) (long, good) f
 
   -- the piece that the bytes hold was judged
   module _ (bytes : Passes (blockChecks l ++ pieceBytes l)) (k : Piece) (held : PieceIn l k) where

@@ -1,7 +1,7 @@
 -- What reading and writing a piece block finds: the order of refusals, and what is answered. Assumes nothing.
 use mathlib.Core.Path.{_≡_}
 use mathlib.Core.List.{List, [], _∷_, _++_}
-use Prim.Native.Nat.{ℕ, _+_, _*_, _-_, _%_, _≤_, _<_}
+use Prim.Native.Nat.{ℕ, _+_, _*_, _-_, _%_, _≤_}
 use lib.IntN.{ℤ, pos}
 use lib.ListN.{length, getD, replicate}
 use Rattle.rules.specs.Reach.{Piece, piece}
@@ -12,7 +12,7 @@ use Rattle.refusal.specs.Said.{said, Writes}
 use Rattle.refusal.specs.declared.Checked.{Checked}
 use Rattle.refusal.specs.declared.Checked.the-variants.{Good, Refused}
 use Rattle.good.specs.Numbers.{pieceOf}
-use Rattle.pair.specs.Pair.{Half, Wide}
+use Rattle.pair.specs.Pair.{Half, Halves, Wide}
 use Rattle.seal.specs.Seal.{lengthCheck, blockChecks}
 use Rattle.block.specs.Reading.{inside, pieceBytes}
 use Rattle.piece_block.specs.declared.PieceRead.{PieceRead}
@@ -77,7 +77,7 @@ WritePieceBodySays k before after r = Writes (pieceBodyAsked before k) (pieceBod
 -- a block holds its numbers
 pub record Held (k : Piece) : Type 0 where
   pub few : length (k .corners) ≤ 128
-  pub halves : (j : ℕ) → j < 5 + length (k .corners) → Half (getD (pieceNumbers k) j (pos 0))
+  pub halves : Halves (pieceNumbers k)
 
 -- a piece in plain numbers
 unfoldable pub pieceAsked : List ℕ → Piece → List Check

@@ -3,7 +3,7 @@ use mathlib.Core.Path.{_≡_, subst}
 use mathlib.Core.Logic.{inr, ⊎-elim}
 use mathlib.Core.List.{List, _∷_, _++_}
 use Rattle.rules.specs.Refusal.{Check, Passes, Fault}
-use Rattle.rules.proofs.Checks.{Sharp, passes-append, fault-right}
+use Rattle.rules.proofs.Checks.{Definite, passes-append, fault-right}
 use Rattle.refusal.specs.Said.{said, Finds}
 use Rattle.refusal.specs.declared.Refusal.{Refusal}
 use Rattle.refusal.specs.declared.Checked.{Checked}
@@ -15,7 +15,7 @@ finds-after c cs Good p f = (p, f)
 finds-after c cs (Refused r) p f = inr (p, f)
 
 -- and back: what all find, the others do
-pub finds-past : (c : Check) (cs : List Check) → Sharp c → (r : Checked) → c .passes → Finds (c ∷ cs) r → Finds cs r
+pub finds-past : (c : Check) (cs : List Check) → Definite c → (r : Checked) → c .passes → Finds (c ∷ cs) r → Finds cs r
 finds-past c cs s Good p f = f .1
 finds-past c cs s (Refused r) p f = ⊎-elim (λ h. absurd (s .never (said r) p h)) (λ h. h .1) f
 

@@ -6,12 +6,12 @@ use Prim.Native.Nat.{ℕ, suc, _+_, _*_, _-_, _≤_, _<_}
 use native.Mathlib.Omega.{arith}
 use lib.ListN.{length, take, drop}
 use Rattle.rules.specs.Refusal as rules
-use Rattle.rules.specs.Refusal.{refuse, Check, Passes, Fault, demand}
+use Rattle.rules.specs.Refusal.{refuse, Check, Passes, demand}
 use Rattle.rules.specs.Reach.{Pieces}
 use Rattle.rules.proofs.Checks.{passes-append, passes-left, passes-right, fault-left, fault-right}
 use Rattle.refusal.specs.declared.Refusal.{Refusal}
 use Rattle.refusal.specs.declared.Refusal.the-variants.{Length}
-use Rattle.refusal.specs.Said.{said, saidIn}
+use Rattle.refusal.specs.Said.{saidIn}
 use Rattle.seal.specs.Seal.{byte, blockAt}
 use Rattle.block.specs.Reading.{headerChecks, HeaderSays}
 use Rattle.piece_block.specs.Reading.{pieceBlockChecks}

@@ -11,16 +11,16 @@ use Rattle.rules.specs.Refusal as rules
 use Rattle.rules.specs.Refusal.{Check, Passes, Fault, inBlock}
 use Rattle.rules.specs.Good.{runChecks}
 use Rattle.rules.specs.Verdict.{answer}
-use Rattle.rules.proofs.Checks.{only, Sharp, AllSharp, never-both, one-fault, sharp-demand, sharp-append}
-use Rattle.rules.proofs.Good.{sharp-run}
+use Rattle.rules.proofs.Checks.{only, Definite, AllDefinite, never-both, one-fault, definite-demand, definite-append}
+use Rattle.rules.proofs.Good.{definite-run}
 use Rattle.rules.proofs.Verdict.{answer-one}
 use Rattle.refusal.specs.declared.Refusal.{Refusal}
 use Rattle.refusal.proofs.Unique.{said-one}
 use Rattle.block.specs.Reading.{headerChecks}
 use Rattle.piece_block.specs.Reading.{pieceBlockChecks, HoldsPiece}
 use Rattle.piece_block.proofs.PieceLaws.{block-passes}
-use Rattle.block.proofs.OneFault.{sharp-header}
-use Rattle.piece_block.proofs.OneFault.{sharp-piece-block}
+use Rattle.block.proofs.OneFault.{definite-header}
+use Rattle.piece_block.proofs.OneFault.{definite-piece-block}
 use Rattle.piece_block.proofs.Unique.{holds-one, read-piece-one, verdict-on-one}
 use Rattle.room.specs.declared.Counted.{Counted}
 use Rattle.room.specs.declared.Counted.the-variants.{Count, Refused as NoCount}
@@ -34,15 +34,15 @@ use Rattle.refusal.specs.Said.{saidIn}
 use Rattle.room.specs.Step.{ReaderAt, pieceRead, Gives, Ends, StepFault, head, block, StepFinds, StepSays}
 use Rattle.room.specs.Verdicts.{verdictsChecks, CodeOf, Filled, VerdictsSay}
 
--- ---- the checks are sharp
-pub sharp-head : (image : List ℕ) → AllSharp (headChecks image)
+-- ---- the checks are definite
+pub definite-head : (image : List ℕ) → AllDefinite (headChecks image)
 unfolding headChecks
-sharp-head image = (sharp-demand _ _, sharp-append (headerChecks (blockAt image 0)) _ (sharp-header (blockAt image 0)) (sharp-demand _ _, tt))
+definite-head image = (definite-demand _ _, definite-append (headerChecks (blockAt image 0)) _ (definite-header (blockAt image 0)) (definite-demand _ _, tt))
 
-module _ (checks : List ℕ → List Check) (sharp : (l : List ℕ) → AllSharp (checks l)) (image : List ℕ) where
+module _ (checks : List ℕ → List Check) (definite : (l : List ℕ) → AllDefinite (checks l)) (image : List ℕ) where
   -- a piece does not pass and fail
   clash : (i : ℕ) (r : rules.Refusal) → Passes (checks (blockAt image (suc i))) → Fault (checks (blockAt image (suc i))) r → ⊥
-  clash i r p f = never-both (checks (blockAt image (suc i))) (sharp (blockAt image (suc i))) r p f
+  clash i r p f = never-both (checks (blockAt image (suc i))) (definite (blockAt image (suc i))) r p f
 
   -- the first that is refused is one, and so is its refusal
   first-one : (n : ℕ) (s t : rules.Refusal) → FirstRefused checks image n s → FirstRefused checks image n t → s ≡ t
@@ -50,21 +50,21 @@ module _ (checks : List ℕ → List Check) (sharp : (l : List ℕ) → AllSharp
       let i = f .piece in let j = g .piece in
       let e = only i j (λ l. clash i (f .refusal) (g .before i l) (f .fault)) (λ l. clash j (g .refusal) (f .before j l) (g .fault)) in
       let there = subst (λ (k : ℕ). Fault (checks (blockAt image (suc k))) (f .refusal)) e (f .fault) in
-      f .same ∙ alike e (one-fault (checks (blockAt image (suc j))) (sharp (blockAt image (suc j))) (f .refusal) (g .refusal) there (g .fault)) ∙ sym (g .same)
+      f .same ∙ alike e (one-fault (checks (blockAt image (suc j))) (definite (blockAt image (suc j))) (f .refusal) (g .refusal) there (g .fault)) ∙ sym (g .same)
     where
       alike : {i j : ℕ} {r q : rules.Refusal} → i ≡ j → r ≡ q → inBlock (suc i) r ≡ inBlock (suc j) q
       alike e f = rw (e, f)
 
-  pub sharp-pieces : Sharp (piecesCheck checks image)
-  sharp-pieces = record { never = λ s p f. clash (f .piece) (f .refusal) (p (f .piece) (f .below)) (f .fault); one = first-one (count image) }
+  pub definite-pieces : Definite (piecesCheck checks image)
+  definite-pieces = record { never = λ s p f. clash (f .piece) (f .refusal) (p (f .piece) (f .below)) (f .fault); one = first-one (count image) }
 
-pub sharp-room : (image : List ℕ) → AllSharp (roomChecks image)
+pub definite-room : (image : List ℕ) → AllDefinite (roomChecks image)
 unfolding roomChecks
-sharp-room image = sharp-append (headChecks image) _ (sharp-head image) (sharp-pieces pieceBlockChecks sharp-piece-block image, tt)
+definite-room image = definite-append (headChecks image) _ (definite-head image) (definite-pieces pieceBlockChecks definite-piece-block image, tt)
 
-pub sharp-verdicts : (r : Run) (image list : List ℕ) → AllSharp (verdictsChecks r image list)
+pub definite-verdicts : (r : Run) (image list : List ℕ) → AllDefinite (verdictsChecks r image list)
 unfolding verdictsChecks
-sharp-verdicts r image list = sharp-append (runChecks r) _ (sharp-run r) (sharp-append (roomChecks image) _ (sharp-room image) (sharp-demand _ _, tt))
+definite-verdicts r image list = definite-append (runChecks r) _ (definite-run r) (definite-append (roomChecks image) _ (definite-room image) (definite-demand _ _, tt))
 
 -- ---- a refusal and its block are told by what they say
 block-one : (x y : Refusal) (a b : ℕ) → saidIn x a ≡ saidIn y b → a ≡ b
@@ -89,19 +89,19 @@ module _ (image : List ℕ) (place : ℕ) where
   past n h g = omega arith
 
   fault-one : (r s : rules.Refusal) → StepFault image place r → StepFault image place s → r ≡ s
-  fault-one r s (head f) (head g) = one-fault (headChecks image) (sharp-head image) r s f g
-  fault-one r s (head f) (block p l x g e) = absurd (never-both (headChecks image) (sharp-head image) r p f)
-  fault-one r s (block p l x f e) (head g) = absurd (never-both (headChecks image) (sharp-head image) s p g)
-  fault-one r s (block p l x f e) (block q m y g d) = e ∙ ap (inBlock (suc place)) (one-fault (pieceBlockChecks here) (sharp-piece-block here) x y f g) ∙ sym d
+  fault-one r s (head f) (head g) = one-fault (headChecks image) (definite-head image) r s f g
+  fault-one r s (head f) (block p l x g e) = absurd (never-both (headChecks image) (definite-head image) r p f)
+  fault-one r s (block p l x f e) (head g) = absurd (never-both (headChecks image) (definite-head image) s p g)
+  fault-one r s (block p l x f e) (block q m y g d) = e ∙ ap (inBlock (suc place)) (one-fault (pieceBlockChecks here) (definite-piece-block here) x y f g) ∙ sym d
 
   -- no fault where a piece is given
   gives-faultless : (s : Step) → Gives image place s → (r : rules.Refusal) → StepFault image place r → ⊥
-  gives-faultless s g r (head f) = never-both (headChecks image) (sharp-head image) r (g .head) f
-  gives-faultless s g r (block q l x f e) = never-both (pieceBlockChecks here) (sharp-piece-block here) x (block-passes here (g .good .piece) (g .good .same) (g .good .good)) f
+  gives-faultless s g r (head f) = never-both (headChecks image) (definite-head image) r (g .head) f
+  gives-faultless s g r (block q l x f e) = never-both (pieceBlockChecks here) (definite-piece-block here) x (block-passes here (g .good .piece) (g .good .same) (g .good .good)) f
 
   -- nor at the end
   ends-faultless : (s : Step) → Ends image place s → (r : rules.Refusal) → StepFault image place r → ⊥
-  ends-faultless s g r (head f) = never-both (headChecks image) (sharp-head image) r (g .head) f
+  ends-faultless s g r (head f) = never-both (headChecks image) (definite-head image) r (g .head) f
   ends-faultless s g r (block q l x f e) = past (count image) l (g .past)
 
   finds-one : (s t : Step) (f g : Found) → s .found ≡ f → t .found ≡ g → StepFinds image place s f → StepFinds image place t g → s ≡ t
@@ -152,10 +152,10 @@ module _ (r : Run) (image : List ℕ) where
   -- at most one answer, and one later content of the list
   pub verdicts-one : (before a b : List ℕ) (x y : Counted) → VerdictsSay r image before a x → VerdictsSay r image before b y → (x ≡ y) × (a ≡ b)
   verdicts-one before a b (Count m) (Count n) f g = (ap Count (f .pieces ∙ sym (g .pieces)), list-one before a b m n f g)
-  verdicts-one before a b (Count m) (NoCount y n) f g = absurd (never-both (verdictsChecks r image before) (sharp-verdicts r image before) (saidIn y n) (f .passes) (g .0))
-  verdicts-one before a b (NoCount x m) (Count n) f g = absurd (never-both (verdictsChecks r image before) (sharp-verdicts r image before) (saidIn x m) (g .passes) (f .0))
+  verdicts-one before a b (Count m) (NoCount y n) f g = absurd (never-both (verdictsChecks r image before) (definite-verdicts r image before) (saidIn y n) (f .passes) (g .0))
+  verdicts-one before a b (NoCount x m) (Count n) f g = absurd (never-both (verdictsChecks r image before) (definite-verdicts r image before) (saidIn x m) (g .passes) (f .0))
   verdicts-one before a b (NoCount x m) (NoCount y n) f g =
-      let q = one-fault (verdictsChecks r image before) (sharp-verdicts r image before) (saidIn x m) (saidIn y n) (f .0) (g .0) in
+      let q = one-fault (verdictsChecks r image before) (definite-verdicts r image before) (saidIn x m) (saidIn y n) (f .0) (g .0) in
       (refused (refusal-one x y m n q) (block-one x y m n q), f .1 ∙ sym (g .1))
     where
       refused : {x y : Refusal} {a b : ℕ} → x ≡ y → a ≡ b → NoCount x a ≡ NoCount y b

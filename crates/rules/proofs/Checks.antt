@@ -7,7 +7,7 @@ use native.Mathlib.Omega.{arith}
 use native.Mathlib.Nat.{add-suc, add-zero}
 use Rattle.whole.specs.Decide.{Seeks}
 use Rattle.whole.proofs.Order.{ℕ-or}
-use Rattle.rules.specs.Refusal.{Refusal, Check, Passes, Fault, demand, First, each, rows}
+use Rattle.rules.specs.Refusal.{Refusal, Check, Passes, Fault, demand, First, each, inTurn}
 
 -- ---- the first of several
 -- the same index, from what rules out an earlier one each way
@@ -23,29 +23,29 @@ first-found s h = record { below = h; bad = s .found h; before = λ j l. s .befo
 
 -- ---- one check
 -- it does not pass and fail, and fails in one way
-pub record Sharp (c : Check) : Type 0 where
+pub record Definite (c : Check) : Type 0 where
   pub never : (r : Refusal) → c .passes → c .fails r → ⊥
   pub one : (r s : Refusal) → c .fails r → c .fails s → r ≡ s
 
-pub sharp-demand : (P : Type 0) (r : Refusal) → Sharp (demand P r)
-sharp-demand P r = record { never = λ s h f. f .0 h; one = λ s t f g. f .1 ∙ sym (g .1) }
+pub definite-demand : (P : Type 0) (r : Refusal) → Definite (demand P r)
+definite-demand P r = record { never = λ s h f. f .0 h; one = λ s t f g. f .1 ∙ sym (g .1) }
 
-pub sharp-each : (Bad : ℕ → Type 0) (n : ℕ) (r : ℕ → Refusal) → Sharp (each Bad n r)
-sharp-each Bad n r = record {
+pub definite-each : (Bad : ℕ → Type 0) (n : ℕ) (r : ℕ → Refusal) → Definite (each Bad n r)
+definite-each Bad n r = record {
   never = λ s h f. h (f .0) (f .1 .below) (f .1 .bad);
   one = λ s t f g. f .2 ∙ ap r (first-one Bad n (f .0) (g .0) (f .1) (g .1)) ∙ sym (g .2);
 }
 
 -- ---- all of them
-abbrev pub AllSharp : List Check → Type 0
-AllSharp [] = Unit {0}
-AllSharp (c ∷ cs) = Sharp c × AllSharp cs
+abbrev pub AllDefinite : List Check → Type 0
+AllDefinite [] = Unit {0}
+AllDefinite (c ∷ cs) = Definite c × AllDefinite cs
 
-pub never-both : (cs : List Check) → AllSharp cs → (r : Refusal) → Passes cs → Fault cs r → ⊥
+pub never-both : (cs : List Check) → AllDefinite cs → (r : Refusal) → Passes cs → Fault cs r → ⊥
 never-both [] a r p f = f
 never-both (c ∷ cs) a r p f = ⊎-elim (λ g. a .0 .never r (p .0) g) (λ g. never-both cs (a .1) r (p .1) (g .1)) f
 
-pub one-fault : (cs : List Check) → AllSharp cs → (r s : Refusal) → Fault cs r → Fault cs s → r ≡ s
+pub one-fault : (cs : List Check) → AllDefinite cs → (r s : Refusal) → Fault cs r → Fault cs s → r ≡ s
 one-fault [] a r s f g = absurd f
 one-fault (c ∷ cs) a r s f g =
     ⊎-elim
@@ -53,9 +53,9 @@ one-fault (c ∷ cs) a r s f g =
     (λ h. ⊎-elim (λ k. absurd (a .0 .never s (h .0) k)) (λ k. one-fault cs (a .1) r s (h .1) (k .1)) g)
     f
 
-pub sharp-append : (cs ds : List Check) → AllSharp cs → AllSharp ds → AllSharp (cs ++ ds)
-sharp-append [] ds a b = b
-sharp-append (c ∷ cs) ds a b = (a .0, sharp-append cs ds (a .1) b)
+pub definite-append : (cs ds : List Check) → AllDefinite cs → AllDefinite ds → AllDefinite (cs ++ ds)
+definite-append [] ds a b = b
+definite-append (c ∷ cs) ds a b = (a .0, definite-append cs ds (a .1) b)
 
 -- checks in a row: those of the second list are made where the first passes
 pub passes-append : (cs ds : List Check) → Passes cs → Passes ds → Passes (cs ++ ds)
@@ -84,7 +84,7 @@ passes-right [] ds p = p
 passes-right (c ∷ cs) ds p = passes-right cs ds (p .1)
 
 -- where the first pass, the fault is among the others
-pub fault-past : (cs ds : List Check) → AllSharp cs → (r : Refusal) → Passes cs → Fault (cs ++ ds) r → Fault ds r
+pub fault-past : (cs ds : List Check) → AllDefinite cs → (r : Refusal) → Passes cs → Fault (cs ++ ds) r → Fault ds r
 fault-past [] ds a r p f = f
 fault-past (c ∷ cs) ds a r p f = ⊎-elim (λ h. absurd (a .0 .never r (p .0) h)) (λ h. fault-past cs ds (a .1) r (p .1) (h .1)) f
 
@@ -95,23 +95,23 @@ fault-within (c ∷ cs) ds r n f = ⊎-elim (λ h. inl h) (λ h. inr (h .0, faul
 
 -- ---- lists of checks, one after the other
 module _ (f : ℕ → List Check) where
-  pub sharp-rows : ((i : ℕ) → AllSharp (f i)) → (n : ℕ) → AllSharp (rows f n)
-  unfolding rows
-  sharp-rows a zero = tt
-  sharp-rows a (suc n) = sharp-append (rows f n) (f n) (sharp-rows a n) (a n)
+  pub definite-in-turn : ((i : ℕ) → AllDefinite (f i)) → (n : ℕ) → AllDefinite (inTurn f n)
+  unfolding inTurn
+  definite-in-turn a zero = tt
+  definite-in-turn a (suc n) = definite-append (inTurn f n) (f n) (definite-in-turn a n) (a n)
 
-  pub rows-pass : (n : ℕ) → ((i : ℕ) → i < n → Passes (f i)) → Passes (rows f n)
-  unfolding rows
-  rows-pass zero h = tt
-  rows-pass (suc n) h = passes-append (rows f n) (f n) (rows-pass n (λ i k. h i (omega arith))) (h n (omega arith))
+  pub in-turn-pass : (n : ℕ) → ((i : ℕ) → i < n → Passes (f i)) → Passes (inTurn f n)
+  unfolding inTurn
+  in-turn-pass zero h = tt
+  in-turn-pass (suc n) h = passes-append (inTurn f n) (f n) (in-turn-pass n (λ i k. h i (omega arith))) (h n (omega arith))
 
-  rows-more : (r : Refusal) (k d : ℕ) → Fault (rows f k) r → Fault (rows f (k + d)) r
-  unfolding rows
-  rows-more r k zero h = rw (add-zero k) h
-  rows-more r k (suc d) h = rw (add-suc k d) (fault-left (rows f (k + d)) (f (k + d)) r (rows-more r k d h))
+  in-turn-more : (r : Refusal) (k d : ℕ) → Fault (inTurn f k) r → Fault (inTurn f (k + d)) r
+  unfolding inTurn
+  in-turn-more r k zero h = rw (add-zero k) h
+  in-turn-more r k (suc d) h = rw (add-suc k d) (fault-left (inTurn f (k + d)) (f (k + d)) r (in-turn-more r k d h))
 
   -- the first fault is where those before pass
-  pub rows-fault : (r : Refusal) (i n : ℕ) → i < n → Passes (rows f i) → Fault (f i) r → Fault (rows f n) r
-  unfolding rows
-  rows-fault r i n h p g =
-      let e : suc i + (n - suc i) ≡ n = omega arith in rw e at (rows-more r (suc i) (n - suc i) (fault-right (rows f i) (f i) r p g))
+  pub in-turn-fault : (r : Refusal) (i n : ℕ) → i < n → Passes (inTurn f i) → Fault (f i) r → Fault (inTurn f n) r
+  unfolding inTurn
+  in-turn-fault r i n h p g =
+      let e : suc i + (n - suc i) ≡ n = omega arith in rw e at (in-turn-more r (suc i) (n - suc i) (fault-right (inTurn f i) (f i) r p g))

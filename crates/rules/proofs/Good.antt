@@ -1,4 +1,4 @@
--- The checks of runs, footprints and pieces are sharp: each input has at most one first fault. Assumes nothing.
+-- The checks of runs, footprints and pieces are definite: each input has at most one first fault. Assumes nothing.
 use mathlib.Core.Path.{_≡_, sym, _∙_}
 use mathlib.Core.List.{List}
 use Prim.Native.Nat.{ℕ}
@@ -9,7 +9,7 @@ use Rattle.rules.specs.Refusal.{refuse}
 use Rattle.rules.specs.Good.{FirstMeet, runChecks, sizedCheck, bandCheck, shapeChecks, footprintChecks, pieceChecks}
 use Rattle.rules.specs.Place.{placeChecks}
 use Rattle.rules.specs.Verdict.{verdictChecks}
-use Rattle.rules.proofs.Checks.{only, AllSharp, sharp-demand, sharp-each, sharp-append}
+use Rattle.rules.proofs.Checks.{only, AllDefinite, definite-demand, definite-each, definite-append}
 
 first-meet : (r : Ring) (i j h k : ℕ) → FirstMeet r i j → FirstMeet r h k → refuse 8 i j ≡ refuse 8 h k
 first-meet r i j h k f g =
@@ -19,41 +19,41 @@ first-meet r i j h k f g =
     same : (i j h k : ℕ) → i ≡ h → j ≡ k → refuse 8 i j ≡ refuse 8 h k
     same i j h k e f = rw (e, f)
 
-pub sharp-shape : (l : List ℤ) → AllSharp (shapeChecks l)
+pub definite-shape : (l : List ℤ) → AllDefinite (shapeChecks l)
 unfolding shapeChecks
-sharp-shape l = (
-  sharp-each _ _ _,
+definite-shape l = (
+  definite-each _ _ _,
   (
-    sharp-each _ _ _,
+    definite-each _ _ _,
     (
-      sharp-each _ _ _,
+      definite-each _ _ _,
       (
         record {
           never = λ s h f. h (f .0) (f .1) (f .2 .meet);
           one = λ s t f g. f .3 ∙ first-meet (ring l) (f .0) (f .1) (g .0) (g .1) (f .2) (g .2) ∙ sym (g .3);
         },
-        (sharp-demand _ _, tt),
+        (definite-demand _ _, tt),
       ),
     ),
   ),
 )
 
-pub sharp-run : (r : Run) → AllSharp (runChecks r)
+pub definite-run : (r : Run) → AllDefinite (runChecks r)
 unfolding runChecks
-sharp-run r = (sharp-each _ _ _, tt)
+definite-run r = (definite-each _ _ _, tt)
 
-pub sharp-footprint : (l : List ℤ) → AllSharp (footprintChecks l)
+pub definite-footprint : (l : List ℤ) → AllDefinite (footprintChecks l)
 unfolding footprintChecks sizedCheck
-sharp-footprint l = (sharp-demand _ _, sharp-shape l)
+definite-footprint l = (definite-demand _ _, definite-shape l)
 
-pub sharp-piece : (k : Piece) → AllSharp (pieceChecks k)
+pub definite-piece : (k : Piece) → AllDefinite (pieceChecks k)
 unfolding pieceChecks sizedCheck bandCheck
-sharp-piece k = (sharp-demand _ _, (sharp-each _ _ _, sharp-shape (k .corners)))
+definite-piece k = (definite-demand _ _, (definite-each _ _ _, definite-shape (k .corners)))
 
-pub sharp-place : (p : Pt) (l : List ℤ) → AllSharp (placeChecks p l)
+pub definite-place : (p : Pt) (l : List ℤ) → AllDefinite (placeChecks p l)
 unfolding placeChecks
-sharp-place p l = (sharp-each _ _ _, sharp-footprint l)
+definite-place p l = (definite-each _ _ _, definite-footprint l)
 
-pub sharp-verdict : (r : Run) (k : Piece) → AllSharp (verdictChecks r k)
+pub definite-verdict : (r : Run) (k : Piece) → AllDefinite (verdictChecks r k)
 unfolding verdictChecks
-sharp-verdict r k = sharp-append (runChecks r) (pieceChecks k) (sharp-run r) (sharp-piece k)
+definite-verdict r k = definite-append (runChecks r) (pieceChecks k) (definite-run r) (definite-piece k)

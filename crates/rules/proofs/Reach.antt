@@ -2,15 +2,17 @@
 use mathlib.Core.Path.{_≡_}
 use mathlib.Core.Bool.{true, false}
 use mathlib.Core.Logic.{⊎-elim}
+use mathlib.Core.List.{List}
 use Prim.Native.Nat.{ℕ, zero, suc, _<_}
 use native.Mathlib.Omega.{arith}
-use lib.IntN.{ℤ}
+use lib.IntN.{ℤ, pos}
 use lib.Signed.{_≤ℤ_, leZ}
+use lib.ListN.{length, getD}
 use Rattle.whole.specs.Decide.{Decides}
 use Rattle.whole.proofs.Order.{le-or-lt, clash, ℕ-or}
 use Rattle.whole.proofs.Flag.{le-true, le-false}
 use Rattle.whole.proofs.Decide.{decide-by}
-use Rattle.rules.specs.Reach.{Between, Ticks, Run, Piece}
+use Rattle.rules.specs.Reach.{Between, Reach, Ticks, Run, Piece}
 use Rattle.rules.specs.Refusal.{Passes}
 use Rattle.rules.specs.Good.{RunKnown, PieceKnown, runNumber, bandNumber, runChecks, pieceChecks, sizedCheck, bandCheck, shapeChecks}
 
@@ -51,6 +53,10 @@ pub run-known : (r : Run) → Passes (runChecks r) → RunKnown r
 unfolding runChecks
 run-known r p j h = run-stable r j (p .0 j h)
 
+pub shape-reach : (l : List ℤ) → Passes (shapeChecks l) → (j : ℕ) → j < length l → Reach (getD l j (pos 0))
+unfolding shapeChecks
+shape-reach l p j h = between-stable _ _ _ (p .0 j h)
+
 pub piece-known : (k : Piece) → Passes (pieceChecks k) → PieceKnown k
-unfolding pieceChecks sizedCheck bandCheck shapeChecks
-piece-known k p = record { sized = p .0; band = λ j h. band-stable k j (p .1 .0 j h); corners = λ j h. between-stable _ _ _ (p .1 .1 .0 j h) }
+unfolding pieceChecks sizedCheck bandCheck
+piece-known k p = record { sized = p .0; band = λ j h. band-stable k j (p .1 .0 j h); corners = shape-reach (k .corners) (p .1 .1) }

@@ -49,6 +49,6 @@ abbrev pub each : (ℕ → Type 0) → ℕ → (ℕ → Refusal) → Check
 each Bad n r = record { passes = (j : ℕ) → j < n → Bad j → ⊥; fails = λ s. (i : ℕ) × First Bad n i × (s ≡ r i) }
 
 -- one list of checks after the other, the first n
-unfoldable pub rows : (ℕ → List Check) → ℕ → List Check
-rows f zero = []
-rows f (suc n) = rows f n ++ f n
+unfoldable pub inTurn : (ℕ → List Check) → ℕ → List Check
+inTurn f zero = []
+inTurn f (suc n) = inTurn f n ++ f n

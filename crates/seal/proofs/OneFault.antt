@@ -1,17 +1,17 @@
--- The checks of blocks are sharp: each list of bytes has at most one first fault. Assumes nothing.
+-- The checks of blocks are definite: each list of bytes has at most one first fault. Assumes nothing.
 use mathlib.Core.List.{List, [], _∷_}
 use Prim.Native.Nat.{ℕ}
-use Rattle.rules.proofs.Checks.{AllSharp, sharp-demand, sharp-each}
+use Rattle.rules.proofs.Checks.{AllDefinite, definite-demand, definite-each}
 use Rattle.seal.specs.Seal.{lengthCheck, blockChecks, unnamedCheck}
 use Rattle.seal.specs.Parts.{partsAsked}
 
-pub sharp-block : (l : List ℕ) → AllSharp (blockChecks l)
+pub definite-block : (l : List ℕ) → AllDefinite (blockChecks l)
 unfolding blockChecks
-sharp-block l = (sharp-demand _ _, (sharp-demand _ _, tt))
+definite-block l = (definite-demand _ _, (definite-demand _ _, tt))
 
-pub sharp-unnamed : (l : List ℕ) (from : ℕ) → AllSharp (lengthCheck l ∷ unnamedCheck l from ∷ [])
-sharp-unnamed l from = (sharp-demand _ _, (sharp-each _ _ _, tt))
+pub definite-unnamed : (l : List ℕ) (from : ℕ) → AllDefinite (lengthCheck l ∷ unnamedCheck l from ∷ [])
+definite-unnamed l from = (definite-demand _ _, (definite-each _ _ _, tt))
 
-pub sharp-parts-asked : (l first last : List ℕ) (at : ℕ) → AllSharp (partsAsked l first last at)
+pub definite-parts-asked : (l first last : List ℕ) (at : ℕ) → AllDefinite (partsAsked l first last at)
 unfolding partsAsked
-sharp-parts-asked l first last at = (sharp-demand _ _, (sharp-demand _ _, tt))
+definite-parts-asked l first last at = (definite-demand _ _, (definite-demand _ _, tt))

@@ -16,7 +16,7 @@ use Rattle.refusal.specs.Said.{Writes}
 use Rattle.refusal.proofs.Unique.{written}
 use Rattle.refusal.specs.declared.Checked.{Checked}
 use Rattle.refusal.specs.declared.Checked.the-variants.{Good}
-use Rattle.seal.proofs.OneFault.{sharp-parts-asked}
+use Rattle.seal.proofs.OneFault.{definite-parts-asked}
 use Rattle.seal.proofs.Bytes.{filled-at, filled-length, sum-same, sum-split, plain-same, weighed-same, block-at, block-sealed, block-is, block-same}
 use Rattle.seal.proofs.Replaced.{mid, part-length, mid-before, mid-in, mid-after}
 
@@ -168,7 +168,7 @@ module _ (first : List ℕ) (at : ℕ) (h : length first ≤ at) (k : at ≤ bod
   front-written : (before after : List ℕ) (r : Checked) → length before ≡ blockSize → WritePartsSays first [] at before after r → (r ≡ Good) × (after ≡ blockOf first)
   unfolding partsAsked
   front-written before after r n w =
-      let e = written (partsAsked before first [] at) (sharp-parts-asked before first [] at) (partsBlock first [] at) before after r w
+      let e = written (partsAsked before first [] at) (definite-parts-asked before first [] at) (partsBlock first [] at) before after r w
       (n, (record { begin = h; end = omega arith }, tt)) in
       (e .0, e .1 ∙ front-block)
 

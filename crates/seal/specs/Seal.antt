@@ -1,5 +1,5 @@
 -- 512 bytes and their check: the block of its first bytes, and what any block is looked at for. `Finds` these checks has one answer by refusal/proofs/Unique
--- `finds-one`, since they are sharp (proofs/OneFault). Assumes nothing.
+-- `finds-one`, since they are definite (proofs/OneFault). Assumes nothing.
 use mathlib.Core.Path.{_≡_}
 use mathlib.Core.List.{List, [], _∷_, _++_}
 use Prim.Native.Nat.{ℕ, zero, suc, _+_, _*_, _-_, _%_, _≤_}

@@ -10,7 +10,7 @@ use Rattle.rules.specs.Reach.{Run}
 use Rattle.rules.specs.Refusal.{Refusal, Passes, Fault, demand, refuse, inBlock}
 use Rattle.rules.specs.Good.{runChecks}
 use Rattle.rules.proofs.Checks.{fault-past, fault-within, passes-left, passes-right}
-use Rattle.rules.proofs.Good.{sharp-run}
+use Rattle.rules.proofs.Good.{definite-run}
 use Rattle.room.specs.Image.{count, roomChecks}
 use Rattle.room.proofs.Images.{few-pieces}
 use Rattle.room.specs.Verdicts.{verdictsChecks, Filled}
@@ -33,7 +33,7 @@ unfolding verdictsChecks
 room-fault r image list good long x f =
     let short = demand (count image ≤ length list) (refuse 10 0 0) ∷ [] in
     fault-within (roomChecks image) short x (λ p g. ⊎-elim (λ h. h .0 (omega (arith, few-pieces image p))) (λ h. h .1) g)
-    (fault-past (runChecks r) (roomChecks image ++ short) (sharp-run r) x good f)
+    (fault-past (runChecks r) (roomChecks image ++ short) (definite-run r) x good f)
 
 module _ (r : Run) (image list after : List ℕ) (n : ℕ) (f : Filled r image list after n) where
   room-passes : Passes (roomChecks image)

@@ -7,12 +7,12 @@ use native.Mathlib.Omega.{arith}
 use lib.ListN.{getD}
 use Rattle.rules.specs.Reach.{Run}
 use Rattle.rules.specs.Refusal.{Refusal, Check, Passes, Fault}
-use Rattle.rules.proofs.Checks.{AllSharp, sharp-demand, never-both, one-fault}
+use Rattle.rules.proofs.Checks.{AllDefinite, definite-demand, never-both, one-fault}
 use Rattle.block.specs.Reading.{runBlockChecks, RunGood}
 use Rattle.block.proofs.RunLaws.{run-one, block-in, block-passes}
-use Rattle.block.proofs.OneFault.{sharp-run-block}
+use Rattle.block.proofs.OneFault.{definite-run-block}
 use Rattle.room.specs.Image.{count, roomChecks}
-use Rattle.room.proofs.Unique.{sharp-room, code-one}
+use Rattle.room.proofs.Unique.{definite-room, code-one}
 use Rattle.notice.specs.Notice.{runLine, roomLine}
 use Rattle.shade.specs.Text.{pieceLines, page, Whole, lengthChecks, runPart, roomPart, Page, Answers, badLength, badRun, badRoom, verdicts}
 
@@ -38,11 +38,11 @@ abbrev Stage : List Check → (Refusal → List ℕ) → (List ℕ → Type 0) �
 Stage cs line After out = Bad cs line out ⊎ (Passes cs × After out)
 
 -- one text, where one comes after
-module _ (cs : List Check) (sharp : AllSharp cs) (line : Refusal → List ℕ) (After : List ℕ → Type 0) where
+module _ (cs : List Check) (definite : AllDefinite cs) (line : Refusal → List ℕ) (After : List ℕ → Type 0) where
   stage-one : ((a b : List ℕ) → After a → After b → a ≡ b) → (a b : List ℕ) → Stage cs line After a → Stage cs line After b → a ≡ b
-  stage-one one a b (inl f) (inl g) = f .text ∙ (ap line (one-fault cs sharp (f .refusal) (g .refusal) (f .fault) (g .fault)) ∙ sym (g .text))
-  stage-one one a b (inl f) (inr g) = absurd (never-both cs sharp (f .refusal) (g .0) (f .fault))
-  stage-one one a b (inr f) (inl g) = absurd (never-both cs sharp (g .refusal) (f .0) (g .fault))
+  stage-one one a b (inl f) (inl g) = f .text ∙ (ap line (one-fault cs definite (f .refusal) (g .refusal) (f .fault) (g .fault)) ∙ sym (g .text))
+  stage-one one a b (inl f) (inr g) = absurd (never-both cs definite (f .refusal) (g .0) (f .fault))
+  stage-one one a b (inr f) (inl g) = absurd (never-both cs definite (g .refusal) (f .0) (g .fault))
   stage-one one a b (inr f) (inr g) = one a b (f .1) (g .1)
 
 -- ---- the length, then the run, then the room
@@ -79,12 +79,12 @@ module _ (input : List ℕ) where
   same-run : (a b : List ℕ) → Ran a → Ran b → a ≡ b
   same-run a b f g =
       let e = run-one (runPart input) (f .run) (g .run) (block-in (runPart input) (f .run) (f .good)) (block-in (runPart input) (g .run) (g .good)) in
-      stage-one (roomChecks (roomPart input)) (sharp-room (roomPart input)) roomLine (Page (g .run) input) (same-page (g .run)) a b (subst (λ r. Roomed r a) e (f .room)) (g .room)
+      stage-one (roomChecks (roomPart input)) (definite-room (roomPart input)) roomLine (Page (g .run) input) (same-page (g .run)) a b (subst (λ r. Roomed r a) e (f .room)) (g .room)
 
-  sharp-length : AllSharp (lengthChecks input)
+  definite-length : AllDefinite (lengthChecks input)
   unfolding lengthChecks
-  sharp-length = (sharp-demand _ _, tt)
+  definite-length = (definite-demand _ _, tt)
 
   pub one-text : (a b : List ℕ) → Answers input a → Answers input b → a ≡ b
   one-text a b f g =
-      stage-one (lengthChecks input) sharp-length roomLine _ (stage-one (runBlockChecks (runPart input)) (sharp-run-block (runPart input)) runLine Ran same-run) a b (staged a f) (staged b g)
+      stage-one (lengthChecks input) definite-length roomLine _ (stage-one (runBlockChecks (runPart input)) (definite-run-block (runPart input)) runLine Ran same-run) a b (staged a f) (staged b g)

@@ -71,13 +71,13 @@ other P false h = h
 abbrev pub reaches : ℤ → Bool
 reaches z = ranged (negsuc 16383) z (pos 16384)
 
-abbrev pub speeds : ℤ → Bool
-speeds v = ranged (negsuc 254) v (pos 255)
+abbrev pub isSpeed : ℤ → Bool
+isSpeed v = ranged (negsuc 254) v (pos 255)
 
 reach-decides : (z : ℤ) → Decides (Reach z) (reaches z)
 reach-decides z = range-decides (negsuc 16383) (pos 16384) z
 
-speed-decides : (v : ℤ) → Decides (Speed v) (speeds v)
+speed-decides : (v : ℤ) → Decides (Speed v) (isSpeed v)
 speed-decides v = range-decides (negsuc 254) (pos 255) v
 
 -- ---- pairs of edges
@@ -212,9 +212,9 @@ footprint-right l = go (sizedFlag l) (sized-decides l)
 abbrev pub bandFlag : Piece → ℕ → Bool
 bandFlag k zero = reaches (k .bottom)
 bandFlag k (suc zero) = reaches (k .top) && leZ (k .bottom) (k .top)
-bandFlag k (suc (suc zero)) = speeds (k .speed .x)
-bandFlag k (suc (suc (suc zero))) = speeds (k .speed .y)
-bandFlag k (suc (suc (suc (suc n)))) = speeds (k .speed .z)
+bandFlag k (suc (suc zero)) = isSpeed (k .speed .x)
+bandFlag k (suc (suc (suc zero))) = isSpeed (k .speed .y)
+bandFlag k (suc (suc (suc (suc n)))) = isSpeed (k .speed .z)
 
 band-decides : (k : Piece) (j : ℕ) → Decides (bandNumber k j) (bandFlag k j)
 band-decides k zero = reach-decides (k .bottom)
@@ -286,9 +286,9 @@ abbrev pub runFlag : Run → ℕ → Bool
 runFlag r zero = reaches (r .start .x)
 runFlag r (suc zero) = reaches (r .start .y)
 runFlag r (suc (suc zero)) = reaches (r .start .z)
-runFlag r (suc (suc (suc zero))) = speeds (r .speed .x)
-runFlag r (suc (suc (suc (suc zero)))) = speeds (r .speed .y)
-runFlag r (suc (suc (suc (suc (suc zero))))) = speeds (r .speed .z)
+runFlag r (suc (suc (suc zero))) = isSpeed (r .speed .x)
+runFlag r (suc (suc (suc (suc zero)))) = isSpeed (r .speed .y)
+runFlag r (suc (suc (suc (suc (suc zero))))) = isSpeed (r .speed .z)
 runFlag r (suc (suc (suc (suc (suc (suc n)))))) = leb (r .ticks) 4096
 
 run-decides : (r : Run) (j : ℕ) → Decides (runNumber r j) (runFlag r j)

@@ -107,7 +107,7 @@ fn check_ring(ring: &[Corner]) -> Result<(), Refusal> {
     if let Some(i) = (0..n).find(|&i| folds(ring[if i == 0 { n - 1 } else { i - 1 }], ring[i], ring[i + 1])) {
         return Err(Refusal::new(7, i, 0));
     }
-    if let Some((a, b)) = meeting(ring) {
+    if let Some((a, b)) = first_meeting(ring) {
         return Err(Refusal::new(8, a, b));
     }
     let area: i64 =
@@ -125,7 +125,7 @@ fn folds(before: Corner, corner: Corner, after: Corner) -> bool {
     px * qy - py * qx == 0 && px * qx + py * qy > 0
 }
 
-fn meeting(ring: &[Corner]) -> Option<(usize, usize)> {
+fn first_meeting(ring: &[Corner]) -> Option<(usize, usize)> {
     let n = ring.len() - 1;
     let mut extents = [Extent { x0: 0, x1: 0, y0: 0, y1: 0 }; MOST_CORNERS];
     for (extent, edge) in extents.iter_mut().zip(ring.windows(2)) {

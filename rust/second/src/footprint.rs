@@ -41,7 +41,7 @@ pub fn check_shape(corners: &[i32]) -> Result<(), Refusal> {
     if let Some(i) = fold(&ring) {
         return Err(Refusal::at(FOLD, i));
     }
-    if let Some((a, b)) = meeting(&ring) {
+    if let Some((a, b)) = first_meeting(&ring) {
         return Err(Refusal::between(MEETING, a, b));
     }
     if twice_area(&ring) <= 0 {
@@ -71,7 +71,7 @@ fn fold(ring: &[Point]) -> Option<usize> {
 }
 
 /// The first pair of edges that are not neighbours and share a point.
-fn meeting(ring: &[Point]) -> Option<(usize, usize)> {
+fn first_meeting(ring: &[Point]) -> Option<(usize, usize)> {
     let n = ring.len();
     for a in 0..n {
         for b in a + 1..n {

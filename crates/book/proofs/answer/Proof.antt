@@ -1,10 +1,9 @@
 -- `book::answer` meets its contract: what a look finds, and else what is worked out, by the laws of Asking. Assumes nothing.
-use mathlib.Core.Path.{ap, _∙_}
+use mathlib.Core.Path.{_∙_}
 use mathlib.Core.List.{List}
 use Prim.Native.Nat.{ℕ}
 use native.Mathlib.Omega.{arith}
 use borrow.Author.Needs.{needs}
-use lib.ListN.{length}
 use denote.Ref.{now}
 use Rattle.rules.specs.Reach.{Run, Piece}
 use Rattle.rules.specs.Good.{pieceChecks}

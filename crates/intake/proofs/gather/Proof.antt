@@ -6,7 +6,7 @@ use borrow.Author.Needs.{needs}
 use lib.ListN.{length-set}
 use mir.Syntax.{w32}
 use Rattle.whole.proofs.Range.{field}
-use Rattle.rules.proofs.Checks.{rows-fault}
+use Rattle.rules.proofs.Checks.{in-turn-fault}
 use Rattle.refusal.specs.Said.{said}
 use Rattle.refusal.specs.declared.Checked.the-variants.{Good}
 use Rattle.intake.specs.Footprint.{Paired, Gathered, cornerAt}
@@ -63,7 +63,7 @@ returns c =
     let s = f .before .before .before in
     let cs = s .before .args .t1 in
     let r = c .before .r .given in
-    rows-fault _ (said (r .0 .0)) (s .loop .i) (s .before .args .count) (omega arith) (holds-pass cs (s .loop .i) (s .loop .numbers) (s .loop .inv .0 .0))
+    in-turn-fault _ (said (r .0 .0)) (s .loop .i) (s .before .args .count) (omega arith) (holds-pass cs (s .loop .i) (s .loop .numbers) (s .loop .inv .0 .0))
     (subst (Paired (cornerAt cs (s .loop .i)) (s .loop .i)) (r .1) (found f))
 
 add-i : tie.Need-add-i Inv-loop μ-loop

@@ -7,7 +7,7 @@ use lib.Seq.{length-take-le}
 use denote.Ref.{now}
 use Rattle.whole.specs.Front.{fronted}
 use Rattle.rules.specs.Reach.{Corners}
-use Rattle.rules.proofs.Checks.{sharp-demand}
+use Rattle.rules.proofs.Checks.{definite-demand}
 use Rattle.refusal.proofs.Unique.{written}
 use Rattle.refusal.specs.declared.Checked.{Checked}
 use Rattle.refusal.specs.declared.Checked.the-variants.{Good}
@@ -65,7 +65,7 @@ returns-5 c =
     let h = gathered t in
     let front = take (2 * a .count) l in
     let fits = put-fits (a .corners) (a .count) l before (h .1) (n .most) room in
-    let w = written (putChecks front before) (sharp-demand _ _, tt) (fronted front before) before _ (c .before .put .result) (c .before .put .ensures) (fits, tt) in
+    let w = written (putChecks front before) (definite-demand _ _, tt) (fronted front before) before _ (c .before .put .result) (c .before .put .ensures) (fits, tt) in
     rw (w .0, w .1) record {
       finds = all-good (a .corners) (a .count) (length before) n room l (h .0);
       list = put-later (a .corners) (a .count) l before (h .1) (n .most) room (h .0);

@@ -1,5 +1,5 @@
 -- `book::front::lay` meets its contract: the run's bytes, and then the piece's, which are promised of a good one. Assumes nothing.
-use mathlib.Core.Path.{_≡_, sym, ap, subst, _∙_}
+use mathlib.Core.Path.{_≡_, sym, subst, _∙_}
 use mathlib.Core.List.{List}
 use Prim.Native.Nat.{ℕ, _+_, _*_}
 use native.Mathlib.Omega.{arith}
@@ -18,8 +18,8 @@ use Rattle.block.specs.Reading.{runBodyAsked}
 use Rattle.piece_block.specs.Reading.{pieceBodyAsked}
 use Rattle.seal.proofs.Replaced.{mid, part-length}
 use Rattle.piece_block.proofs.PieceLaws.{good-asked}
-use Rattle.block.proofs.OneFault.{sharp-run-body-asked}
-use Rattle.piece_block.proofs.OneFault.{sharp-piece-body-asked}
+use Rattle.block.proofs.OneFault.{definite-run-body-asked}
+use Rattle.piece_block.proofs.OneFault.{definite-piece-body-asked}
 use Rattle.book.specs.Entry.{kind, pieceAt, pieceLength, codeAt}
 use Rattle.book.proofs.Lay.{headed-length, both-length, begin, begin-bad}
 use Rattle.book.proofs.front.lay.Statement.{statement}
@@ -48,7 +48,7 @@ laid : (c : tie.After-write-run-body) → bytes c ≡ runBody (run c)
 unfolding runBodyAsked
 laid c =
     let w = c .write-run-body in
-    written (runBodyAsked (part c) (run c)) (sharp-run-body-asked (part c) (run c)) (runBody (run c)) (part c) (bytes c) (w .result) (w .ensures)
+    written (runBodyAsked (part c) (run c)) (definite-run-body-asked (part c) (run c)) (runBody (run c)) (part c) (bytes c) (w .result) (w .ensures)
     (part-long c, start c .pre .good) .1
 
 abbrev headed : tie.After-write-run-body → List ℕ
@@ -104,7 +104,7 @@ returns : tie.Need-returns
 returns c =
     let d = c .before .before .before .before in let asked = pieceBodyAsked (part-2 d) (piece d) in
     begin-bad _ (piece d) _
-    (λ p. never-both asked (sharp-piece-body-asked (part-2 d) (piece d)) _ (good-asked (piece d) p (part-2 d) (part-2-long d)) (told d _ (c .enum-told .given .1) .0))
+    (λ p. never-both asked (definite-piece-body-asked (part-2 d) (piece d)) _ (good-asked (piece d) p (part-2 d) (part-2-long d)) (told d _ (c .enum-told .given .1) .0))
 
 same-length-2 : tie.Need-same-length-2
 same-length-2 c = as-long (c .before .before .before .before)

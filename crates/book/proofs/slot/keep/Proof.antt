@@ -6,7 +6,7 @@ use lib.ListN.{length-take}
 use denote.Ref.{now}
 use Rattle.seal.specs.Seal.{blockOf}
 use Rattle.book.specs.Entry.{four}
-use Rattle.book.specs.Steps.{cleared}
+use Rattle.book.specs.Steps.{firstBytes}
 use Rattle.book.proofs.Slots.{part-put}
 use Rattle.book.proofs.slot.keep.Statement.{statement}
 use Rattle.book.proofs.slot.keep.Tie as tie
@@ -18,10 +18,10 @@ write-entry-requires : tie.Need-write-entry-requires
 write-entry-requires c κs = let q = c .before .before .before .before .pre .1 in (simp length-take (omega arith), search needs)
 
 returns : tie.Need-returns
-unfolding cleared
+unfolding firstBytes
 returns c =
     let a = c .before .before .before .before .before .before .before .args in let w = c .before .before .write-entry in
-    part-put (now (a .book)) (a .at) (w .last .1 .1 .0) (blockOf (cleared (now (a .front)) (a .end) ++ four (a .code))) (w .ensures)
+    part-put (now (a .book)) (a .at) (w .last .1 .1 .0) (blockOf (firstBytes (now (a .front)) (a .end) ++ four (a .code))) (w .ensures)
 
 pub keep-spec : {M : Type 1} → statement M
 keep-spec =

@@ -11,8 +11,8 @@ use Rattle.rules.specs.Reach.{Run}
 use Rattle.good.specs.Numbers.{runOf}
 use Rattle.whole.proofs.Decide.{yes, no}
 use Rattle.book.specs.Entry.{codeAt}
-use Rattle.book.specs.Steps.{cleared}
-use Rattle.book.proofs.Look.{cleared-length, beyond, other, sound}
+use Rattle.book.specs.Steps.{firstBytes}
+use Rattle.book.proofs.Look.{first-bytes-length, beyond, other, sound}
 use Rattle.book.proofs.slot.recall.Statement.{statement}
 use Rattle.book.proofs.slot.recall.Tie as tie
 
@@ -24,13 +24,13 @@ abbrev slot : tie.After-code-in → List ℕ
 slot c = now (start c .args .slot)
 
 abbrev first : tie.After-code-in → List ℕ
-first c = cleared (now (start c .args .front)) (start c .args .end)
+first c = firstBytes (now (start c .args .front)) (start c .args .end)
 
 abbrev run : tie.After-code-in → Run
 run c = runOf (start c .args .run)
 
 long : (c : tie.After-code-in) → length (first c) ≡ codeAt
-long c = cleared-length (now (start c .args .front)) (start c .args .end) (start c .pre .1 .0)
+long c = first-bytes-length (now (start c .args .front)) (start c .args .end) (start c .pre .1 .0)
 
 returns : tie.Need-returns
 returns c =
@@ -44,7 +44,7 @@ is-entry-requires : tie.Need-is-entry-requires
 is-entry-requires c κs = let p = c .before .before .before .before .before .pre in let q = p .1 .0 in simp length-take (omega arith)
 
 returns-2 : tie.Need-returns-2
-unfolding cleared
+unfolding firstBytes
 returns-2 c =
     let d = c .before .before .before .before in let w = c .before .is-entry in let small = d .code-in .ok in
     sound (slot d) (first d) (run d) (long d) (d .code-in .result) (d .code-in .ensures) (omega arith)
@@ -52,7 +52,7 @@ returns-2 c =
     (yes _ (w .result) (w .ensures) (c .if3 .taken))
 
 returns-3 : tie.Need-returns-3
-unfolding cleared
+unfolding firstBytes
 returns-3 c =
     let d = c .before .before .before .before in let w = c .before .is-entry in
     other (slot d) (first d) (run d) (long d) (d .code-in .result) (d .code-in .ensures) (no _ (w .result) (w .ensures) (c .if3 .left))

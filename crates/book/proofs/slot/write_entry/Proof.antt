@@ -8,7 +8,7 @@ use lib.ListN.{length}
 use denote.Ref.{now}
 use Rattle.seal.specs.Seal.{filled, blockOf}
 use Rattle.seal.specs.Parts.{partsAsked}
-use Rattle.seal.proofs.OneFault.{sharp-parts-asked}
+use Rattle.seal.proofs.OneFault.{definite-parts-asked}
 use Rattle.refusal.proofs.Unique.{written}
 use Rattle.book.specs.Entry.{codeAt}
 use Rattle.book.proofs.slot.write_entry.Statement.{statement}
@@ -25,7 +25,7 @@ returns c =
     let w = written-out .write-parts in
     let v = told .bytes-of in
     let l = v .result in
-    written (partsAsked s f l codeAt) (sharp-parts-asked s f l codeAt) (blockOf (filled codeAt f ++ l)) s (w .last .1 .1 .1 .0) (w .result) (w .ensures)
+    written (partsAsked s f l codeAt) (definite-parts-asked s f l codeAt) (blockOf (filled codeAt f ++ l)) s (w .last .1 .1 .1 .0) (w .result) (w .ensures)
     (b .pre .1, (record { begin = b .pre .0; end = omega (arith, ap length (v .ensures)) }, tt)) .1
     ∙ ap (λ (x : List ℕ). blockOf (filled codeAt f ++ x)) (v .ensures)
 

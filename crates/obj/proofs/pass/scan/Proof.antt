@@ -6,7 +6,7 @@ use denote.Ref.{now}
 use lib.ListN.{length}
 use Rattle.obj.specs.declared.pass.Stepped.{Stepped}
 use Rattle.obj.specs.Steps.{Stepping}
-use Rattle.obj.proofs.Seen.{Under, under-start, under-end, under-ready, under-fault, under-next}
+use Rattle.obj.proofs.Seen.{Under, under-start, under-end, under-line, under-fault, under-next}
 use Rattle.obj.proofs.pass.scan.Statement.{statement}
 use Rattle.obj.proofs.pass.scan.Tie as tie
 
@@ -39,7 +39,7 @@ module _ (c : tie.After-line-end Inv-loop μ-loop) where
 step-requires : tie.Need-step-requires Inv-loop μ-loop
 step-requires c κs =
     let e = c .before in let b = turn e .before in let l = e .line-end .ensures in
-    under-ready _ _ _ _ _ (b .loop .inv) (end e) (stop e) (turn e .loop-test .taken) (e .before .feed .ensures) (b .before .before .pre .0) (l .0) (l .1) (l .2)
+    under-line _ _ _ _ _ (b .loop .inv) (end e) (stop e) (turn e .loop-test .taken) (e .before .feed .ensures) (b .before .before .pre .0) (l .0) (l .1) (l .2)
 
 -- the line at hand as seen from its step; and the step as seen from what is known next
 abbrev ended : tie.After-step Inv-loop μ-loop → tie.After-line-end Inv-loop μ-loop

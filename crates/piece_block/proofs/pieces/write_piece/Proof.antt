@@ -18,7 +18,7 @@ use Rattle.block.specs.Layout.{pieceKind}
 use Rattle.piece_block.specs.Layout.{pieceBodySize, pieceBody, pieceBlock}
 use Rattle.piece_block.specs.Reading.{pieceBodyAsked, pieceAsked}
 use Rattle.piece_block.proofs.Bodies.{piece-body-length}
-use Rattle.piece_block.proofs.OneFault.{sharp-piece-body-asked}
+use Rattle.piece_block.proofs.OneFault.{definite-piece-body-asked}
 use Rattle.piece_block.proofs.PieceLaws.{good-asked, good-held}
 use Rattle.piece_block.proofs.pieces.write_piece.Statement.{statement}
 use Rattle.piece_block.proofs.pieces.write_piece.Tie as tie
@@ -59,7 +59,7 @@ zeros = replicate pieceBodySize 0
 bytes : (c : tie.After-write-piece-body) → c .write-piece-body .last .1 .1 .0 ≡ pieceBody (piece c)
 bytes c =
     let w = c .write-piece-body in let k = piece c in
-    written (pieceBodyAsked zeros k) (sharp-piece-body-asked zeros k) (pieceBody k) zeros (w .last .1 .1 .0) (w .result) (w .ensures) (good-asked k (good c) zeros refl) .1
+    written (pieceBodyAsked zeros k) (definite-piece-body-asked zeros k) (pieceBody k) zeros (w .last .1 .1 .0) (w .result) (w .ensures) (good-asked k (good c) zeros refl) .1
 
 long : (c : tie.After-write-piece-body) → length (c .write-piece-body .last .1 .1 .0) ≡ pieceBodySize
 long c = ap length (bytes c) ∙ piece-body-length (piece c) (good-held (piece c) (good c) .few)

@@ -38,7 +38,7 @@ returns-4 c =
 lay-piece-requires : tie.Need-lay-piece-requires
 lay-piece-requires c κs =
     let w = c .before .before in let e = w .before in (
-      record { few = e .if3 .left; halves = λ j h. between-stable _ _ _ (none-found (w .wide-in .ensures) (c .before .if4 .left) j h) },
+      record { few = e .if3 .left; halves = λ j h. between-stable _ _ _ (none-found (w .wide-in .ensures) (c .before .if4 .left) j (omega arith)) },
       e .before .before .if1 .left,
     )
 
