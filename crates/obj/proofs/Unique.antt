@@ -17,7 +17,8 @@ use Rattle.obj.specs.declared.Outline.the-variants.{Corners, Refused}
 use Rattle.line.specs.Text.{lines}
 use Rattle.line.specs.Number.{Decimal}
 use Rattle.line.specs.Line.{Point}
-use Rattle.obj.specs.File.{LastFace, none, drawn, faceIn, nowhere, lineChecks, linesChecks, decimalChecks, pointChecks, pointsChecks, corners, cornersChecks, faceChecks, objChecks, Drawn, ObjSays}
+use Rattle.obj.specs.File.{LastFace, none, drawn, faceIn, nowhere, corners, Drawn, ObjSays}
+use Rattle.obj.specs.File.{lineChecks, linesChecks, decimalChecks, pointChecks, pointsChecks, cornersChecks, faceChecks, objChecks}
 
 definite-line : (file : List ℕ) (i : ℕ) → AllDefinite (lineChecks file i)
 unfolding lineChecks
