@@ -26,7 +26,7 @@ pub fn write_header(pieces: u32, block: &mut [u8]) -> Checked
     if block.len() != SIZE {
         return Checked::Refused(Refusal::Length);
     }
-    if MOST < pieces {
+    if MOST < pieces as usize {
         return Checked::Refused(Refusal::Kind(5));
     }
     let front = [NAME[0], NAME[1], NAME[2], NAME[3], EDITION, pieces as u8];

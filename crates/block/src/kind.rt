@@ -50,7 +50,7 @@ fn check_header_bytes(block: &[u8]) -> Checked
     if edition != EDITION {
         return Checked::Refused(Refusal::Kind(4));
     }
-    let pieces = block[5] as u32;
+    let pieces = block[5] as usize;
     if MOST < pieces {
         return Checked::Refused(Refusal::Kind(5));
     }

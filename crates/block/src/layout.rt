@@ -1,4 +1,4 @@
-// The numbers of the layout, each once; specs/Layout.antt says the same.
+// The numbers of the layout, each once; specs/Layout.antt says the same, and rules/specs/Reach of the most pieces.
 ghost use mathlib.Core.Path.{_≡_};
 ghost use Prim.Native.Nat.{_<_};
 ghost use lib.ListN.{getD};
@@ -9,7 +9,7 @@ pub(crate) const NAME: [u8; 4] = [0x52, 0x4F, 0x4F, 0x4D];
 
 pub(crate) const EDITION: u8 = 1;
 // The most pieces of a room.
-pub(crate) const MOST: u32 = 126;
+pub const MOST: usize = 126;
 
 // The length of a run's numbers in its block, bytes 2 to 15.
 pub(crate) const RUN_BODY: usize = 14;

@@ -10,6 +10,7 @@ pub use header::read_header;
 pub use header::write_header;
 pub use kind::Kind;
 pub use kind::check_kind;
+pub use layout::MOST;
 pub use layout::PIECE;
 use refusal::Refusal;
 pub use runs::read_run;

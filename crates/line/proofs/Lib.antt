@@ -4,6 +4,7 @@ pub mod Parts
 pub mod Words
 pub mod Digits
 pub mod Decimals
+pub mod Exact
 pub mod Corners
 pub mod Says
 pub mod Unique

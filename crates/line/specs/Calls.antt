@@ -21,6 +21,7 @@ BEYOND = pos 65536
 abbrev pub OFF : ℤ
 OFF = pos 65537
 
+-- one whose size is more than 1,024 is out of reach; one is on the grid where sixteen times it is whole. That the intake's `Within` and `grid` say so of its value: proofs/Exact `tells`
 unfoldable pub entry : Decimal → ℤ
 entry d = cond (ltb (1024 * 10 ^ d .places) (d .whole)) BEYOND (cond (eqb (16 * d .whole % 10 ^ d .places) 0) (gridded d) OFF)
 

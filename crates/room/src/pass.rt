@@ -1,6 +1,7 @@
 // The verdicts of a room: one pass over its pieces into codes, and only then the lent list.
 use crate::Counted;
 use crate::image::head;
+use block::MOST;
 use good::Run;
 use good::check_run;
 use piece::Coded;
@@ -12,6 +13,7 @@ use seal::SIZE;
 ghost use Prim.Native.Nat.{_≤_};
 ghost use lib.ListN.{length};
 ghost use Rattle.whole.specs.Front.{Front};
+ghost use Rattle.rules.specs.Reach.{Pieces};
 ghost use Rattle.rules.specs.Refusal.{Passes};
 ghost use Rattle.rules.specs.Good.{runChecks};
 ghost use Rattle.good.specs.Numbers.{runOf};
@@ -22,7 +24,7 @@ ghost use Rattle.room.specs.Verdicts.{VerdictsSay};
 // The verdicts on the pieces of a room, coded.
 pub(crate) struct Codes {
     pub(crate) found: Counted,
-    pub(crate) codes: [u32; 126],
+    pub(crate) codes: [u32; MOST],
 }
 
 // The verdict on one piece, coded.
@@ -40,7 +42,7 @@ fn codes_of(run: Run, image: &[u8], n: usize) -> Codes
     requires { ⌜ Passes (runChecks (runOf run)) × HeadGood (now image) n ⌝ }
     ensures { λ r. ⌜ CodesSay (runOf run) (now (image .entry)) r ⌝ }
 {
-    let mut codes = [0u32; 126];
+    let mut codes = [0u32; MOST];
     let mut i = 0;
     while i < n {
         match code_of(run, image, i) {
@@ -64,14 +66,14 @@ fn read_codes(run: Run, image: &[u8]) -> Codes
         Counted::Count(n) => codes_of(run, image, n),
         Counted::Refused(x, b) => {
             let found = Counted::Refused(x, b);
-            let codes = [0u32; 126];
+            let codes = [0u32; MOST];
             Codes { found, codes }
         }
     }
 }
 
-fn store(codes: &[u32; 126], n: usize, list: &mut [u32])
-    requires { ⌜ (n ≤ 126) × (n ≤ length (now list)) ⌝ }
+fn store(codes: &[u32; MOST], n: usize, list: &mut [u32])
+    requires { ⌜ Pieces n × (n ≤ length (now list)) ⌝ }
     ensures { λ _. ⌜ Front 0 (now (codes .entry)) n (now (list .entry)) (now (list .exit)) ⌝ }
 {
     let mut k = 0;

@@ -1,5 +1,6 @@
 // The text that answers an input: a run block, then a room image.
 use crate::line::put_page;
+use block::MOST;
 use block::RunRead;
 use block::read_run;
 use good::Run;
@@ -39,7 +40,7 @@ fn answer_room(run: Run, input: &[u8], out: &mut [u8]) -> usize
     requires { ⌜ (6328 ≤ length (now out)) × Whole (now input) × RunGood (runPart (now input)) (runOf run) ⌝ }
     ensures { λ r. ⌜ Prints (now (input .entry)) (now (out .entry)) (now (out .exit)) r ⌝ }
 {
-    let mut codes = [0u32; 126];
+    let mut codes = [0u32; MOST];
     let counted = verdicts(run, &input[SIZE..], &mut codes);
     match counted {
         Counted::Refused(x, block) => room_line(out, x, block),

@@ -1,9 +1,10 @@
 -- `block::runs::run_at` meets its contract: the numbers stand in a part of the block, and two bytes unsigned fit. Assumes nothing.
 use mathlib.Core.Path.{refl}
+use mathlib.Core.List.{List}
 use Prim.Native.Nat.{ℕ, _+_, _*_, _<_}
 use native.Mathlib.Omega.{arith}
 use borrow.Author.Needs.{needs}
-use lib.IntN.{pos}
+use lib.IntN.{ℤ, pos}
 use lib.ListN.{getD, take, drop, replicate}
 use mir.Syntax.{w32}
 use mir.Val.{toZ, ofZ}
@@ -42,16 +43,19 @@ add-t34 c =
     let d = ticked c in
     omega (arith, d .before .shared-slice-known2 .given 14, d .shared-slice-known3 .given 15)
 
--- the numbers of bytes 2 to 13
-numbers : (c : tie.After-read-pairs) → NumbersOf (take 12 (drop 2 (now (start c .args .block)))) (c .read-pairs .last .1 .0)
+-- what was read of bytes 2 to 13, and that these are their numbers
+abbrev were-read : tie.After-read-pairs → List ℤ
+were-read c = c .read-pairs .last .1 .0
+
+numbers : (c : tie.After-read-pairs) → NumbersOf (take 12 (drop 2 (now (start c .args .block)))) (were-read c)
 numbers c =
     let s = start c in let l = now (s .args .block) in
-    pairs-read (take 12 (drop 2 l)) (replicate 6 (pos 0)) (c .read-pairs .last .1 .0) (c .read-pairs .result) (c .read-pairs .ensures) (part-length l 2 12 (omega (arith, s .pre))) .1
+    pairs-read (take 12 (drop 2 l)) (replicate 6 (pos 0)) (were-read c) (c .read-pairs .result) (c .read-pairs .ensures) (part-length l 2 12 (omega (arith, s .pre))) .1
 
 returns : tie.Need-returns
 returns c =
     let w = numbered (ticked c) in let l = now (start w .args .block) in
-    let at : (j : ℕ) → 2 * j + 1 < 12 → NumberAt l (0 + j) (toZ w32 (ofZ w32 (getD (w .read-pairs .last .1 .0) j (pos 0)))) = part-local l 0 12 (w .read-pairs .last .1 .0) (numbers w) in
+    let at : (j : ℕ) → 2 * j + 1 < 12 → NumberAt l (0 + j) (toZ w32 (ofZ w32 (getD (were-read w) j (pos 0)))) = part-local l 0 12 (were-read w) (numbers w) in
     record {
       x = at 0 (omega arith);
       y = at 1 (omega arith);

@@ -30,21 +30,25 @@ corners c = now (start c .args .corners)
 abbrev counted : tie.After-write-pairs → List ℕ
 counted c = set (now (start c .args .bytes)) 0 (length (corners c) / 2)
 
-laid : (c : tie.After-write-pairs) → c .write-pairs .last .1 .0 ≡ words (slabNumbers (start c .args .slab))
+-- what was laid of it
+abbrev band-bytes : tie.After-write-pairs → List ℕ
+band-bytes c = c .write-pairs .last .1 .0
+
+laid : (c : tie.After-write-pairs) → band-bytes c ≡ words (slabNumbers (start c .args .slab))
 laid c =
     let w = c .write-pairs in let b = start c in let part = take 10 (drop 1 (counted c)) in
-    pairs-written (slabNumbers (b .args .slab)) part (w .last .1 .0) (w .result)
-    (subst (λ (zs : List ℤ). WritePairsSays zs part (w .last .1 .0) (w .result)) (c .before .before .before .slab-numbers .ensures) (w .ensures))
+    pairs-written (slabNumbers (b .args .slab)) part (band-bytes c) (w .result)
+    (subst (λ (zs : List ℤ). WritePairsSays zs part (band-bytes c) (w .result)) (c .before .before .before .slab-numbers .ensures) (w .ensures))
     (part-length (counted c) 1 10 (simp length-set (omega (arith, b .pre)))) (band-halves (b .args .slab) (corners c) (b .pre .0)) .1
 
 -- the bytes then, and their length
 abbrev banded : tie.After-write-pairs → List ℕ
-banded c = mid 1 10 (counted c) (c .write-pairs .last .1 .0)
+banded c = mid 1 10 (counted c) (band-bytes c)
 
 long : (c : tie.After-write-pairs) → length (banded c) ≡ pieceBodySize
 long c =
     let b = start c in
-    one-length (now (b .args .bytes)) (c .write-pairs .last .1 .0) (length (corners c) / 2) 10 (omega (arith, b .pre)) (ap length (laid c)) ∙ b .pre .1
+    one-length (now (b .args .bytes)) (band-bytes c) (length (corners c) / 2) 10 (omega (arith, b .pre)) (ap length (laid c)) ∙ b .pre .1
 
 few : (c : tie.After-write-pairs) → length (corners c) ≤ 128
 few c = start c .pre .0 .few
@@ -56,29 +60,32 @@ part-write-pairs-end-2 c = omega (arith, long (c .before .before), few (c .befor
 abbrev rest : tie.After-write-pairs → ℕ
 rest c = 11 + 2 * length (corners c) - 11
 
-cornered : (c : tie.After-write-pairs2) → c .write-pairs2 .last .1 .0 ≡ words (corners (c .before .before .before .before))
+abbrev corner-bytes : tie.After-write-pairs2 → List ℕ
+corner-bytes c = c .write-pairs2 .last .1 .0
+
+cornered : (c : tie.After-write-pairs2) → corner-bytes c ≡ words (corners (c .before .before .before .before))
 cornered c =
     let w = c .write-pairs2 in let d = c .before .before .before .before in let b = start d in
     let n : rest d ≡ 2 * length (corners d) = omega arith in
-    pairs-written (corners d) (take (rest d) (drop 11 (banded d))) (w .last .1 .0) (w .result) (w .ensures)
+    pairs-written (corners d) (take (rest d) (drop 11 (banded d))) (corner-bytes c) (w .result) (w .ensures)
     (part-length (banded d) 11 (rest d) (omega (arith, long d, few d)) ∙ n) (corner-halves (b .args .slab) (corners d) (b .pre .0)) .1
 
-cornered-long : (c : tie.After-write-pairs2) → length (c .write-pairs2 .last .1 .0) ≡ rest (c .before .before .before .before)
+cornered-long : (c : tie.After-write-pairs2) → length (corner-bytes c) ≡ rest (c .before .before .before .before)
 cornered-long c = let l = corners (c .before .before .before .before) in omega (arith, ap length (cornered c), words-length l)
 
 same-length : tie.Need-same-length
 same-length c =
     let w = c .before .before in let d = w .before .before .before .before in
-    mid-length (banded d) (w .write-pairs2 .last .1 .0) 11 (rest d) (omega (arith, long d, few d)) (cornered-long w) ∙ long d ∙ sym (start d .pre .1)
+    mid-length (banded d) (corner-bytes w) 11 (rest d) (omega (arith, long d, few d)) (cornered-long w) ∙ long d ∙ sym (start d .pre .1)
 
 returns : tie.Need-returns
 returns c =
     let w = c .before .before in let d = w .before .before .before .before in let b = start d in let m = length (corners d) in
     let n : 11 + 2 * m ≡ 11 + rest d = omega arith in let s = m / 2 in
-    ap (λ k. take k (mid 11 (rest d) (banded d) (w .write-pairs2 .last .1 .0))) n
-    ∙ mid-front (banded d) (w .write-pairs2 .last .1 .0) 11 (rest d) (omega (arith, long d, few d)) (cornered-long w)
-    ∙ ap (λ (f : List ℕ). f ++ w .write-pairs2 .last .1 .0)
-    (one-then (now (b .args .bytes)) (d .write-pairs .last .1 .0) s 10 (omega (arith, b .pre)) (ap length (laid d)) 10 (omega arith) ∙ ap (λ (f : List ℕ). s ∷ take 10 f) (laid d))
+    ap (λ k. take k (mid 11 (rest d) (banded d) (corner-bytes w))) n
+    ∙ mid-front (banded d) (corner-bytes w) 11 (rest d) (omega (arith, long d, few d)) (cornered-long w)
+    ∙ ap (λ (f : List ℕ). f ++ corner-bytes w)
+    (one-then (now (b .args .bytes)) (band-bytes d) s 10 (omega (arith, b .pre)) (ap length (laid d)) 10 (omega arith) ∙ ap (λ (f : List ℕ). s ∷ take 10 f) (laid d))
     ∙ ap (λ (f : List ℕ). (s ∷ words (slabNumbers (b .args .slab))) ++ f) (cornered w)
 
 pub lay-piece-spec : {M : Type 1} → statement M

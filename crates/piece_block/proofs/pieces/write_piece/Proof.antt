@@ -56,24 +56,28 @@ good c = let e = found c in found-good (pieceChecks (piece c)) _ (checked e .che
 abbrev zeros : List ℕ
 zeros = replicate pieceBodySize 0
 
-bytes : (c : tie.After-write-piece-body) → c .write-piece-body .last .1 .1 .0 ≡ pieceBody (piece c)
+-- what `write_piece_body` left
+abbrev laid : tie.After-write-piece-body → List ℕ
+laid c = c .write-piece-body .last .1 .1 .0
+
+bytes : (c : tie.After-write-piece-body) → laid c ≡ pieceBody (piece c)
 bytes c =
     let w = c .write-piece-body in let k = piece c in
-    written (pieceBodyAsked zeros k) (definite-piece-body-asked zeros k) (pieceBody k) zeros (w .last .1 .1 .0) (w .result) (w .ensures) (good-asked k (good c) zeros refl) .1
+    written (pieceBodyAsked zeros k) (definite-piece-body-asked zeros k) (pieceBody k) zeros (laid c) (w .result) (w .ensures) (good-asked k (good c) zeros refl) .1
 
-long : (c : tie.After-write-piece-body) → length (c .write-piece-body .last .1 .1 .0) ≡ pieceBodySize
+long : (c : tie.After-write-piece-body) → length (laid c) ≡ pieceBodySize
 long c = ap length (bytes c) ∙ piece-body-length (piece c) (good-held (piece c) (good c) .few)
 
 slice-aggregate-write-parts : tie.Need-slice-aggregate-write-parts
 slice-aggregate-write-parts c =
     let w = c .before .before in
-    ap suc (sym (ap length (append-nil (w .write-piece-body .last .1 .1 .0)) ∙ long w))
+    ap suc (sym (ap length (append-nil (laid w)) ∙ long w))
 
 returns-3 : tie.Need-returns-3
 unfolding pieceAsked pieceBlock
 returns-3 c =
     let w = c .before .before in let b = body w in let g = checked (found b) in let d = g .before in let a = start g .args in
-    let k = piece b in let e = append-nil (b .write-piece-body .last .1 .1 .0) in let h = ap length e ∙ long b in
+    let k = piece b in let e = append-nil (laid b) in let h = ap length e ∙ long b in
     front-writes _ 268 (omega (arith, h)) (omega arith) (pieceAsked (now (a .block)) k) (pieceKind ∷ pieceBody k) (now (a .block)) (w .write-parts .last .1 .1 .1 .0) (w .write-parts .result)
     (ap (λ (l : List ℕ). pieceKind ∷ l) (e ∙ bytes b)) (d .if1 .left) (d .if1 .left, good b) (w .write-parts .ensures)
 

@@ -1,12 +1,12 @@
 -- `seal::parts::write_parts` meets its contract: the lengths, then the parts laid and their check after them; it is that of the bytes laid. Assumes nothing.
-use mathlib.Core.Path.{refl, sym, ap, _∙_}
+use mathlib.Core.Path.{_≡_, refl, sym, ap, _∙_}
 use mathlib.Core.Logic.{inl, inr}
 use mathlib.Core.List.{List, _++_}
 use Prim.Native.Nat.{ℕ, _+_}
 use native.Mathlib.Omega.{arith}
 use borrow.Author.Needs.{needs}
 use borrow.Author.Tests.{not-true, not-false}
-use lib.ListN.{set, length-set}
+use lib.ListN.{length, set, length-set}
 use denote.Ref.{now}
 use Rattle.whole.proofs.Decide.{yes, no}
 use Rattle.seal.specs.Seal.{bodySize, plainSum, filled}
@@ -57,20 +57,27 @@ cast-block c = let s = summed (laid c) in omega (arith, s .parts-sums .ensures .
 cast-block-2 : tie.Need-cast-block-2
 cast-block-2 c = let s = summed (laid (c .before)) in omega (arith, s .parts-sums .ensures .1, weighed-below (both (fitted s)))
 
+-- the bytes with the parts laid; they are as many as were lent
+abbrev parted : tie.After-lay-parts → List ℕ
+parted c = c .lay-parts .last .1 .1 .1 .0
+
+as-many : (c : tie.After-lay-parts) → length (parted c) ≡ length (now (start (fitted (summed c)) .args .block))
+as-many c = c .lay-parts .kept .1 .1 .1 .0
+
 slice-write-block-2 : tie.Need-slice-write-block-2
 slice-write-block-2 c =
     let d = laid (c .before) in
-    simp length-set (omega (arith, d .lay-parts .kept .1 .1 .1 .0, fitted (summed d) .before .if1 .left))
+    simp length-set (omega (arith, as-many d, fitted (summed d) .before .if1 .left))
 
 returns-3 : tie.Need-returns-3
 unfolding partsAsked
 returns-3 c =
     let d = laid (c .before) in let e = summed d in let g = fitted e in let a = start g .args in let n = g .before .if1 .left in let fit = fits (e .before) in
-    let l = both g in let s = e .parts-sums in let w = d .lay-parts in let m = w .last .1 .1 .1 .0 in (
+    let l = both g in let s = e .parts-sums in let w = d .lay-parts in let m = parted d in (
       (n, (fit, tt)),
       ap (λ x. set (set m bodySize x) (bodySize + 1) (s .result .weighed)) (s .ensures .0 ∙ sym (plain-same m l (w .ensures)))
           ∙ ap (λ x. set (set m bodySize (plainSum m)) (bodySize + 1) x) (s .ensures .1 ∙ sym (weighed-same m l (w .ensures)))
-          ∙ sealing-is m (w .kept .1 .1 .1 .0 ∙ n) l (both-few (now (a .first)) (now (a .last)) (a .at) fit) (w .ensures),
+          ∙ sealing-is m (as-many d ∙ n) l (both-few (now (a .first)) (now (a .last)) (a .at) fit) (w .ensures),
     )
 
 pub write-parts-spec : {M : Type 1} → statement M
