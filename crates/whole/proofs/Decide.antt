@@ -10,7 +10,7 @@ use mir.Syntax.{Width}
 use mir.Val.{hbits, to_z, of_z}
 use borrow.Author.Count.{below_none, below_more}
 use borrow.Author.Tests.{not-true, not-false}
-use Rattle.whole.proofs.Order.{ℕ-or}
+use Rattle.whole.proofs.Order.{ℕ_or}
 use Rattle.whole.proofs.Flag.{false_true}
 use Rattle.whole.proofs.Range.{field}
 use Rattle.whole.specs.Decide.{Decides, Seeks}
@@ -84,7 +84,7 @@ of_three P a b c (suc (suc (suc j))) l = absurd (omega arith)
 pub onward : (Bad Evil : ℕ → Type 0) (m n r : ℕ) → Below Bad m → ((j : ℕ) → j < n → Bad (m + j) → Evil j) → Seeks Evil n r → (k : ℕ) → k ≤ r → k ≤ n → Below Bad (m + k)
 onward Bad Evil m n r h f s k a b j l e =
     ⊎_elim (λ (i : m ≤ j). let q : j ≡ m + (j - m) = omega arith in s.before (j - m) (omega arith) (omega arith) (f (j - m) (omega arith) (subst Bad q e))) (λ (i : j < m). h j i e)
-    (ℕ-or m j)
+    (ℕ_or m j)
 
 -- ---- a test of signed numbers, as its caller reads them back
 pub taken : (P : ℤ → Type 0) (w : Width) (z : ℤ) (t : Bool) → mag z < 2 ^ hbits w → Decides (P (to_z w (of_z w z))) t → not t ≡ false → P z

@@ -8,7 +8,7 @@ use lib.ListN.{length, get_or, set, drop, length-set, length-append, length-drop
 use lib.Seq.{ext_get_or, get_or-set_same, get_or-set_other, get_or-drop, get_or-append-add}
 use borrow.Author.Count.{below_none, below_more}
 use Rattle.whole.specs.Front.{Stays, Front, fronted}
-use Rattle.whole.proofs.Order.{ℕ-or}
+use Rattle.whole.proofs.Order.{ℕ_or}
 
 -- one more element is stored: those up to it are right
 pub stored : {A : Type 0} (z : A) (l m : List A) (i : ℕ) (a : A) → i < length l → ((k : ℕ) → k < i → get_or l k z ≡ get_or m k z) → a ≡ get_or m i z → (k : ℕ) → k < i + 1 → get_or (set l i a) k z ≡ get_or m k z
@@ -16,7 +16,7 @@ stored z l m i a h before e = below_more (λ k. get_or (set l i a) k z ≡ get_o
 
 -- one list stays so, where its first elements are known
 pub stays_one : {A : Type 0} (z : A) (n : ℕ) (before a b : List A) → Stays z n before a → Stays z n before b → ((i : ℕ) → i < n → get_or a i z ≡ get_or b i z) → a ≡ b
-stays_one z n before a b f g first = ext_get_or z a b (f.size ∙ sym g.size) λ i h. ⊎_elim (λ (q : n ≤ i). f.rest i q ∙ sym (g.rest i q)) (λ (q : i < n). first i q) (ℕ-or n i)
+stays_one z n before a b f g first = ext_get_or z a b (f.size ∙ sym g.size) λ i h. ⊎_elim (λ (q : n ≤ i). f.rest i q ∙ sym (g.rest i q)) (λ (q : i < n). first i q) (ℕ_or n i)
 
 module _ {A : Type 0} (z : A) (front before : List A) where
   pub front_none : Front z front 0 before before

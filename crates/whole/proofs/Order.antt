@@ -34,14 +34,14 @@ pub add_swap : (a b c : ℤ) → a +ℤ (b +ℤ c) ≡ b +ℤ (a +ℤ c)
 add_swap = all3 _ λ a a' b b' c c'. simp ring (omega arith)
 
 -- ---- order
-pub ℕ-or : (a b : ℕ) → (a ≤ b) ⊎ (b < a)
-ℕ-or zero b = inl (omega arith)
-ℕ-or (suc a) zero = inr (omega arith)
-ℕ-or (suc a) (suc b) = ⊎_elim (λ (h : a ≤ b). inl (omega arith)) (λ (h : b < a). inr (omega arith)) (ℕ-or a b)
+pub ℕ_or : (a b : ℕ) → (a ≤ b) ⊎ (b < a)
+ℕ_or zero b = inl (omega arith)
+ℕ_or (suc a) zero = inr (omega arith)
+ℕ_or (suc a) (suc b) = ⊎_elim (λ (h : a ≤ b). inl (omega arith)) (λ (h : b < a). inr (omega arith)) (ℕ_or a b)
 
 -- decided
 pub le_or_lt : (a b : ℤ) → (a ≤ℤ b) ⊎ (b <ℤ a)
-le_or_lt = all2 _ λ a a' b b'. ⊎_elim (λ (h : a + b' ≤ b + a'). inl (simp ring (omega arith))) (λ (h : b + a' < a + b'). inr (simp ring (omega arith))) (ℕ-or (a + b') (b + a'))
+le_or_lt = all2 _ λ a a' b b'. ⊎_elim (λ (h : a + b' ≤ b + a'). inl (simp ring (omega arith))) (λ (h : b + a' < a + b'). inr (simp ring (omega arith))) (ℕ_or (a + b') (b + a'))
 
 pub not_lt : (a b : ℤ) → (b <ℤ a → ⊥) → a ≤ℤ b
 not_lt = all2 _ λ a a' b b'. simp ring (omega arith)
