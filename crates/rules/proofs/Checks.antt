@@ -6,13 +6,13 @@ use Prim.Native.Nat.{ℕ, zero, suc, ◌+◌, ◌-◌, ◌≤◌, ◌<◌}
 use native.Mathlib.Omega.{arith}
 use native.Mathlib.Nat.{add-suc, add-zero}
 use Rattle.whole.specs.Decide.{Seeks}
-use Rattle.whole.proofs.Order.{ℕ-or}
+use Rattle.whole.proofs.Order.{ℕ_or}
 use Rattle.rules.specs.Refusal.{Refusal, Check, Passes, Fault, demand, First, each, in_turn}
 
 -- ---- the first of several
 -- the same index, from what rules out an earlier one each way
 pub only : (i j : ℕ) → (i < j → ⊥) → (j < i → ⊥) → i ≡ j
-only i j f g = ⊎_elim (λ (h : i ≤ j). ⊎_elim (λ (k : j ≤ i). (omega arith)) (λ (k : i < j). absurd (f k)) (ℕ-or j i)) (λ (h : j < i). absurd (g h)) (ℕ-or i j)
+only i j f g = ⊎_elim (λ (h : i ≤ j). ⊎_elim (λ (k : j ≤ i). (omega arith)) (λ (k : i < j). absurd (f k)) (ℕ_or j i)) (λ (h : j < i). absurd (g h)) (ℕ_or i j)
 
 pub first_one : (Bad : ℕ → Type 0) (n i j : ℕ) → First Bad n i → First Bad n j → i ≡ j
 first_one Bad n i j f g = only i j (λ h. g.before i h f.bad) (λ h. f.before j h g.bad)

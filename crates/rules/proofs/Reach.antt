@@ -9,7 +9,7 @@ use lib.IntN.{ℤ, pos}
 use lib.Signed.{◌≤ℤ◌, le_z}
 use lib.ListN.{length, get_or}
 use Rattle.whole.specs.Decide.{Decides}
-use Rattle.whole.proofs.Order.{le_or_lt, clash, ℕ-or}
+use Rattle.whole.proofs.Order.{le_or_lt, clash, ℕ_or}
 use Rattle.whole.proofs.Flag.{le_true, le_false}
 use Rattle.whole.proofs.Decide.{decide_by}
 use Rattle.rules.specs.Reach.{Between, Reach, Ticks, Run, Piece}
@@ -31,7 +31,7 @@ pub between_no : (low high z : ℤ) → le_z low z ≡ false → Decides (Betwee
 between_no low high z e = rw e (λ b. clash z low (le_false low z e) b.above)
 
 ticks_stable : (n : ℕ) → ((Ticks n → ⊥) → ⊥) → Ticks n
-ticks_stable n f = ⊎_elim (λ h. h) (λ (h : 4096 < n). absurd (f (λ g. absurd (omega arith)))) (ℕ-or n 4096)
+ticks_stable n f = ⊎_elim (λ h. h) (λ (h : 4096 < n). absurd (f (λ g. absurd (omega arith)))) (ℕ_or n 4096)
 
 run_stable : (r : Run) (j : ℕ) → ((RunNumber r j → ⊥) → ⊥) → RunNumber r j
 run_stable r zero f = between_stable _ _ _ f

@@ -4,7 +4,7 @@ use mathlib.Core.Logic.{◌⊎◌, inl, inr, ⊎_elim}
 use Prim.Native.Nat.{ℕ, suc, ◌≤◌, ◌<◌}
 use native.Mathlib.Omega.{arith}
 use borrow.Author.Tests.{eq-eqb, ne_eqb}
-use Rattle.whole.proofs.Order.{ℕ-or}
+use Rattle.whole.proofs.Order.{ℕ_or}
 use Rattle.rules.specs.Ring.{next}
 
 pub next_inner : (n i : ℕ) → suc i < n → next n i ≡ suc i
@@ -19,7 +19,7 @@ next_last n = rw (eq-eqb (suc n) (suc n) refl)
 pub next_ways : (n i : ℕ) → i < n → ((suc i < n) × (next n i ≡ suc i)) ⊎ ((suc i ≡ n) × (next n i ≡ 0))
 next_ways n i h =
     ⊎_elim (λ (l : n ≤ suc i). let e : suc i ≡ n = omega arith in inr (e, rw (← e) (next_last i))) (λ (l : suc i < n). inl (l, next_inner n i l))
-    (ℕ-or n (suc i))
+    (ℕ_or n (suc i))
 
 pub next_below : (n i : ℕ) → i < n → next n i < n
 next_below n i h = ⊎_elim (λ w. rw w.1 w.0) (λ w. rw w.1 (omega arith)) (next_ways n i h)

@@ -1,1 +1,2 @@
 // The definitions of the shadow baker. No code: see specs/ and proofs/.
+#![tactic(auto)]
