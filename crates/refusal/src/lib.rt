@@ -1,8 +1,10 @@
 // Refusals, and what checks find.
+#![tactic(auto)]
+
 ghost use Rattle.refusal.specs.Said.{RowOf};
 
 // A refusal: what comes back when it can't be done, a case for each row of the table. specs/Said.antt gives each its number and places.
-#[derive(Drop)]
+#[derive(Clone, Copy)]
 pub enum Refusal {
     // the length of a room, a book or an input
     Length,
@@ -36,14 +38,14 @@ pub enum Refusal {
 }
 
 // What a check finds.
-#[derive(Drop)]
+#[derive(Clone, Copy)]
 pub enum Checked {
     Good,
     Refused(Refusal),
 }
 
 // A row of the table, filled in: the number of a refusal and its two places, 0 where it has none.
-#[derive(Drop)]
+#[derive(Clone, Copy)]
 pub struct Row(pub usize, pub usize, pub usize);
 
 pub fn row_of(x: Refusal) -> Row
