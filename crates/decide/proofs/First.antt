@@ -7,7 +7,7 @@ use native.Mathlib.Omega.{arith}
 use lib.IntN.{pos}
 use Rattle.whole.specs.Fraction.{Frac, ◌≼◌, mark, whole, Floor}
 use Rattle.whole.proofs.Fraction.{trans, mark_mono, floor_most}
-use Rattle.whole.proofs.Order.{ℕ-or}
+use Rattle.whole.proofs.Order.{ℕ_or}
 use Rattle.rules.specs.Ring.{Pt, Ring, from, to}
 use Rattle.decide.specs.Span.{Span, some, first}
 use Rattle.rules.specs.Verdict.{NONE}
@@ -42,7 +42,7 @@ joined {s} {Q} {R} c d (when u i q m l b) (when u' i' q' m' l' b') =
     subst (FirstAt s (λ t. Q t ⊎ R t)) z (when u i (inl q) m (λ t j x. ⊎_elim (l t j) (λ y. trans (mark (pos c)) (mark (pos d)) t (mark_mono c d h) (l' t j y)) x) b))
     (λ (h : d < c). let z : d ≡ min c d = omega arith in let e : d ≤ c = omega arith in
     subst (FirstAt s (λ t. Q t ⊎ R t)) z (when u' i' (inr q') m' (λ t j x. ⊎_elim (λ y. trans (mark (pos d)) (mark (pos c)) t (mark_mono d c e) (l t j y)) (l' t j) x) b'))
-    (ℕ-or c d)
+    (ℕ_or c d)
 
 pub through : {s : Span} {Q R : Frac → Type 0} {c : ℕ} → ((t : Frac) → Q t → R t) → ((t : Frac) → R t → Q t) → FirstAt s Q c → FirstAt s R c
 through f g (never e h) = never e (λ t i q. h t i (g t q))
@@ -82,4 +82,4 @@ first_touches r p w s q early (suc n) = through out into
     into : (t : Frac) → OnFirst r p w (suc n) t → OnFirst r p w n t ⊎ OnAt p w (from r n) (to r n) t
     into t h = let l = h.1 in
         ⊎_elim (λ (g : n ≤ h.0). let e : h.0 ≡ n = omega arith in inr (subst (λ (k : ℕ). OnAt p w (from r k) (to r k) t) e h.2))
-        (λ (g : h.0 < n). inl (h.0, g, h.2)) (ℕ-or n h.0)
+        (λ (g : h.0 < n). inl (h.0, g, h.2)) (ℕ_or n h.0)

@@ -5,7 +5,7 @@ use Prim.Native.Nat.{ℕ, zero, suc, ◌≤◌, ◌<◌}
 use native.Mathlib.Omega.{arith}
 use lib.IntN.{ℤ, pos, ◌+ℤ◌, ◌-ℤ◌, ◌*ℤ◌}
 use Rattle.whole.specs.Fraction.{Frac, ◌≼◌}
-use Rattle.whole.proofs.Order.{nn_mul, pos_mul, lt_le, le_sub, ℕ-or}
+use Rattle.whole.proofs.Order.{nn_mul, pos_mul, lt_le, le_sub, ℕ_or}
 use Rattle.whole.proofs.Polynomial.{vars3, vars6, vars8, poly, num_val, by_ring}
 use Rattle.rules.specs.Ring.{Pt, times, Ring, from, to}
 use Rattle.decide.proofs.Segment.{Apart, Common, decide}
@@ -73,7 +73,7 @@ module _ (p w : Pt) (s t : Frac) (l : s ≼ t) where
         (λ f. ⊎_elim
         (λ q. inl
         (λ k g. ⊎_elim (λ (e : n ≤ k). let z : n ≡ k = omega arith in subst (λ (i : ℕ). Apart (from wide i) (to wide i) start stop) z q)
-        (λ (e : k < n). f k e) (ℕ-or n k))) (λ c. let x = touched (from r n) (to r n) c in inr (x.0, x.1, x.2, (n, h, x.3)))
+        (λ (e : k < n). f k e) (ℕ_or n k))) (λ c. let x = touched (from r n) (to r n) c in inr (x.0, x.1, x.2, (n, h, x.3)))
         (decide (from wide n) (to wide n) start stop))
         inr
         (look n (omega arith))

@@ -34,6 +34,7 @@ not_counted r p n e c = false_true (sym e ∙ counted_yes p (from r n) (to r n) 
 pub count_parity : (r : Ring) (p : Pt) (n k : ℕ) → Count r p n k → k % 2 ≡ bit (parity (flag r p) n)
 unfolding parity
 count_parity r p zero zero start = refl
+count_parity r p zero (suc k) c = elim c [ ]
 count_parity r p (suc n) (suc k) (more c h) = flipped k (parity (flag r p) n) (count_parity r p n k h)
     ∙ ap (λ t. bit (xor (parity (flag r p) n) t)) (sym (counted_yes p (from r n) (to r n) c.0 c.1))
 count_parity r p (suc n) k (pass f h) =

@@ -6,7 +6,7 @@ use Prim.Native.Nat.{ℕ, zero, suc, ◌≤◌, ◌<◌}
 use native.Mathlib.Omega.{arith}
 use lib.IntN.{ℤ, pos}
 use lib.Signed.{◌≤ℤ◌, ◌<ℤ◌, le_z, <ℤ-≤ℤ_trans}
-use Rattle.whole.proofs.Order.{le_lt_trans, lt_le, not_lt, clash, neg_not, pos_not, ℕ-or}
+use Rattle.whole.proofs.Order.{le_lt_trans, lt_le, not_lt, clash, neg_not, pos_not, ℕ_or}
 use Rattle.whole.proofs.Flag.{by_flag, false_true, decided, or_yes, or_left, or_right, and_yes, and_both, le_true, le_false, true_le}
 use Rattle.rules.specs.Ring.{Pt, Ring, from, to, On}
 use Rattle.rules.specs.Place.{OnRing, Where, on, inside, outside, Parity, Place, OnOrInside}
@@ -111,7 +111,7 @@ unfolding on_some
 on_some_lem r p zero k l h = absurd (omega arith)
 on_some_lem r p (suc n) k l h =
     ⊎_elim (λ (q : n ≤ k). or_right (on_some r p n) (is_on p (from r n) (to r n)) (let e : k ≡ n = omega arith in at (subst (λ (i : ℕ). On p (from r i) (to r i)) e h)))
-    (λ (q : k < n). or_left (on_some r p n) (is_on p (from r n) (to r n)) (on_some_lem r p n k q h)) (ℕ-or n k)
+    (λ (q : k < n). or_left (on_some r p n) (is_on p (from r n) (to r n)) (on_some_lem r p n k q h)) (ℕ_or n k)
   where
     at : On p (from r n) (to r n) → is_on p (from r n) (to r n) ≡ true
     at g = ⊎_elim (λ e. e) (λ e. absurd (on_no p (from r n) (to r n) e g)) (decided (is_on p (from r n) (to r n)))
