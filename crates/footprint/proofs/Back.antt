@@ -5,7 +5,7 @@ use Prim.Native.Nat.{ℕ, suc, ◌+◌, ◌-◌, ◌≤◌, ◌<◌}
 use native.Mathlib.Omega.{arith}
 use native.Mathlib.Numerals.{add-one}
 use borrow.Author.Tests.{ne_eqb}
-use Rattle.whole.proofs.Order.{ℕ-or}
+use Rattle.whole.proofs.Order.{ℕ_or}
 use Rattle.rules.specs.Ring.{next}
 use Rattle.rules.proofs.Ring.{next_ways}
 use Rattle.footprint.specs.Shape.{around, back}
@@ -20,10 +20,10 @@ back_inner n i h = rw (ne_eqb i 0 (λ e. omega arith))
 
 pub back_below : (n i : ℕ) → i < n → back n i < n
 back_below n i h =
-    ⊎_elim (λ (z : i ≤ 0). let e : i ≡ 0 = omega arith in rw (e, back_last n) (omega arith)) (λ (z : 0 < i). rw (back_inner n i z) (omega arith)) (ℕ-or i 0)
+    ⊎_elim (λ (z : i ≤ 0). let e : i ≡ 0 = omega arith in rw (e, back_last n) (omega arith)) (λ (z : 0 < i). rw (back_inner n i z) (omega arith)) (ℕ_or i 0)
 
 pub next_back : (n i : ℕ) → i < n → next n (back n i) ≡ i
-next_back n i h = ⊎_elim last inner (ℕ-or i 0)
+next_back n i h = ⊎_elim last inner (ℕ_or i 0)
   where
     ways : ((suc (back n i) < n) × (next n (back n i) ≡ suc (back n i))) ⊎ ((suc (back n i) ≡ n) × (next n (back n i) ≡ 0))
     ways = next_ways n (back n i) (back_below n i h)

@@ -10,7 +10,7 @@ use lib.IntN.{ℤ, pos, nat_abs, ◌+ℤ◌, ◌-ℤ◌, ◌*ℤ◌}
 use lib.ListN.{length, get_or}
 use borrow.Author.Tests.{lt-ltb, le-ltb}
 use native.Mathlib.Nat.{add-zero}
-use Rattle.whole.proofs.Order.{ℕ-or}
+use Rattle.whole.proofs.Order.{ℕ_or}
 use Rattle.whole.proofs.Polynomial.{vars4, poly}
 use mir.Syntax.{w64}
 use mir.Val.{SFits}
@@ -39,7 +39,7 @@ seeking_none Bad n = record { before = λ j l. absurd (omega arith); found = λ 
 
 pub seeking_step : (Bad : ℕ → Type 0) (i n f : ℕ) (hit : Bool) → i < n → Seeking Bad i n f → Decides (Bad i) hit → Seeking Bad (i + 1) n (first_hit f n i hit)
 seeking_step Bad i n f hit h s d =
-    ⊎_elim (λ (k : n ≤ f). rw (le-ltb f n k) (last k hit d)) (λ (k : f < n). rw (lt-ltb f n k) (kept k)) (ℕ-or n f)
+    ⊎_elim (λ (k : n ≤ f). rw (le-ltb f n k) (last k hit d)) (λ (k : f < n). rw (lt-ltb f n k) (kept k)) (ℕ_or n f)
   where
     kept : f < n → Seeking Bad (i + 1) n f
     kept k = let c = (s.found k).0 in record { before = λ j a b. s.before j (omega arith) b; found = λ l. (omega arith, (s.found k).1) }
@@ -47,7 +47,7 @@ seeking_step Bad i n f hit h s d =
     last : n ≤ f → (t : Bool) → Decides (Bad i) t → Seeking Bad (i + 1) n (cond t i n)
     last k true b = record { before = λ j a l. s.before j l (omega arith); found = λ l. (omega arith, b) }
     last k false b = record {
-      before = λ j a l p. ⊎_elim (λ (m : i ≤ j). let e : j ≡ i = omega arith in b (subst Bad e p)) (λ (m : j < i). s.before j m (omega arith) p) (ℕ-or i j);
+      before = λ j a l p. ⊎_elim (λ (m : i ≤ j). let e : j ≡ i = omega arith in b (subst Bad e p)) (λ (m : j < i). s.before j m (omega arith) p) (ℕ_or i j);
       found = λ l. absurd (omega arith);
     }
 
@@ -74,14 +74,14 @@ corner_by l n k s h b f c =
 reached_more : (l : List ℤ) (n i : ℕ) → HoldsRing l n → i < n → Reached l (2 * i + 2) → Corner l (next n i) → Reached l (2 * (i + 1) + 2)
 reached_more l n i h b r c j a k =
     ⊎_elim (λ (m : 2 * i + 2 ≤ j). ⊎_elim (λ w. new w.0 (rw w.1 at c)) (λ w. absurd (let e = h.whole in omega arith)) (next_ways n i b)) (λ (m : j < 2 * i + 2). r j m k)
-    (ℕ-or (2 * i + 2) j)
+    (ℕ_or (2 * i + 2) j)
   where
     new : suc i < n → Corner l (suc i) → Reach (get_or l j (pos 0))
     new w d =
-        ⊎_elim (λ (m : 2 * suc i + 1 ≤ j). let e : 2 * suc i + 1 ≡ j = omega arith in rw e at d.y) (λ (m : j < 2 * suc i + 1). first d m) (ℕ-or (2 * suc i + 1) j)
+        ⊎_elim (λ (m : 2 * suc i + 1 ≤ j). let e : 2 * suc i + 1 ≡ j = omega arith in rw e at d.y) (λ (m : j < 2 * suc i + 1). first d m) (ℕ_or (2 * suc i + 1) j)
       where
         first : Corner l (suc i) → j < 2 * suc i + 1 → Reach (get_or l j (pos 0))
-        first d m = ⊎_elim (λ (q : 2 * suc i ≤ j). let e : 2 * suc i ≡ j = omega arith in rw e at d.x) (λ (q : j < 2 * suc i). r j (omega arith) k) (ℕ-or (2 * suc i) j)
+        first d m = ⊎_elim (λ (q : 2 * suc i ≤ j). let e : 2 * suc i ≡ j = omega arith in rw e at d.x) (λ (q : j < 2 * suc i). r j (omega arith) k) (ℕ_or (2 * suc i) j)
 
 pub reached_next : (l : List ℤ) (n i : ℕ) → i < n → Reached l (2 * i + 2) → Reached l (2 * next n i)
 reached_next l n i b r j a = r j (⊎_elim (λ w. omega arith) (λ w. omega arith) (next_ways n i b))
@@ -94,10 +94,10 @@ stray_first l n k s h b f a r = record { below = let e = h.whole in omega arith;
     own j c m d = let e : 2 * k + (j - 2 * k) ≡ j = omega arith in f.before (j - 2 * k) (omega arith) (omega arith) (subst (Stray l) (sym e) d)
 
     before : (j : ℕ) → j < 2 * k + s → Stray l j → ⊥
-    before j c d = ⊎_elim (λ (m : 2 * k ≤ j). own j c m d) (λ (m : j < 2 * k). d (r j m (let e = h.whole in omega arith))) (ℕ-or (2 * k) j)
+    before j c d = ⊎_elim (λ (m : 2 * k ≤ j). own j c m d) (λ (m : j < 2 * k). d (r j m (let e = h.whole in omega arith))) (ℕ_or (2 * k) j)
 
 pub reached_two : (l : List ℤ) (n : ℕ) → HoldsRing l n → Corner l 0 → Reached l 2
-reached_two l n h c j a b = ⊎_elim (λ (m : 1 ≤ j). let e : 1 ≡ j = omega arith in rw e at c.y) (λ (m : j < 1). let e : 0 ≡ j = omega arith in subst at e c.x) (ℕ-or 1 j)
+reached_two l n h c j a b = ⊎_elim (λ (m : 1 ≤ j). let e : 1 ≡ j = omega arith in rw e at c.y) (λ (m : j < 1). let e : 0 ≡ j = omega arith in subst at e c.x) (ℕ_or 1 j)
   where
     at : ℕ → Type 0
     at j = Reach (get_or l j (pos 0))
@@ -198,4 +198,4 @@ module _ (l : List ℤ) (n e f : ℕ) (twice : ℤ) (h : HoldsRing l n) (p : Pas
   drawn_later t = drawing f (record { before = before; found = λ a. (p.fold.found a).1.1 })
     where
       before : (j : ℕ) → j < f → j < n → Bend (ring l) j → ⊥
-      before j a c d = ⊎_elim (λ (z : j ≤ 0). let q : j ≡ 0 = omega arith in no _ _ first_bend t (subst (Bend (ring l)) q d)) (λ (z : 0 < j). p.fold.before j c a (z, d)) (ℕ-or j 0)
+      before j a c d = ⊎_elim (λ (z : j ≤ 0). let q : j ≡ 0 = omega arith in no _ _ first_bend t (subst (Bend (ring l)) q d)) (λ (z : 0 < j). p.fold.before j c a (z, d)) (ℕ_or j 0)

@@ -4,7 +4,7 @@ use mathlib.Core.Bool.{true, false}
 use mathlib.Core.Logic.{inl, inr, ⊎_elim}
 use Prim.Native.Nat.{ℕ, ◌+◌, ◌≤◌, ◌<◌}
 use native.Mathlib.Omega.{arith}
-use Rattle.whole.proofs.Order.{ℕ-or}
+use Rattle.whole.proofs.Order.{ℕ_or}
 use Rattle.rules.specs.Ring.{Ring, next, from, to, Neighbours}
 use Rattle.rules.specs.Good.{Meet}
 use Rattle.rules.proofs.Ring.{next_ways}
@@ -30,10 +30,10 @@ pair_parted : (n i j e : ℕ) → Ends n i e → i < j → j < n → (Neighbours
 pair_parted n i j e d h k f = (far, near)
   where
     far : i + 2 ≤ j
-    far = ⊎_elim (λ (l : i + 2 ≤ j). l) (λ (l : j < i + 2). absurd (f (inl (⊎_elim (λ w. omega arith) (λ w. absurd (omega arith)) (next_ways n i (omega arith)))))) (ℕ-or (i + 2) j)
+    far = ⊎_elim (λ (l : i + 2 ≤ j). l) (λ (l : j < i + 2). absurd (f (inl (⊎_elim (λ w. omega arith) (λ w. absurd (omega arith)) (next_ways n i (omega arith)))))) (ℕ_or (i + 2) j)
 
     near : j < e
-    near = ⊎_elim (λ w. ⊎_elim (λ (l : e ≤ j). absurd (f (inr (⊎_elim (λ v. absurd (omega arith)) (λ v. omega arith) (next_ways n j k))))) (λ (l : j < e). l) (ℕ-or e j)) (λ w. omega arith) d
+    near = ⊎_elim (λ w. ⊎_elim (λ (l : e ≤ j). absurd (f (inr (⊎_elim (λ v. absurd (omega arith)) (λ v. omega arith) (next_ways n j k))))) (λ (l : j < e). l) (ℕ_or e j)) (λ w. omega arith) d
 
 module _ (r : Ring) (i e : ℕ) (d : Ends r.size i e) where
   pub hit : (j : ℕ) → i + 2 ≤ j → j < e → edges_share r i j ≡ true → Meet r i j

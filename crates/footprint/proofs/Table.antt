@@ -10,7 +10,7 @@ use lib.ListN.{length, set, length-set}
 use lib.Seq.{get_or-set_same, get_or-set_other}
 use mir.Syntax.{w16}
 use mir.Val.{SFits}
-use Rattle.whole.proofs.Order.{ℕ-or}
+use Rattle.whole.proofs.Order.{ℕ_or}
 use Rattle.whole.proofs.Range.{fits}
 use Rattle.rules.specs.Reach.{Reach}
 use Rattle.rules.specs.Ring.{Ring, from, to}
@@ -41,7 +41,7 @@ stays t t' u a b p v c d h s = record { low = p.rest v (omega arith) ∙ s.low; 
 -- one edge more
 pub boxed_more : (r : Ring) (t t' t'' : List ℤ) (i : ℕ) → AllBoxed r t i → Put t t' (4 * i) (from r i).x (to r i).x → Put t' t'' (4 * i + 2) (from r i).y (to r i).y → AllBoxed r t'' (i + 1)
 boxed_more r t t' t'' i h p q j l =
-    ⊎_elim (λ (k : i ≤ j). let e : i ≡ j = omega arith in subst (Boxed r t'') e new) (λ (k : j < i). old k (h j k)) (ℕ-or i j)
+    ⊎_elim (λ (k : i ≤ j). let e : i ≡ j = omega arith in subst (Boxed r t'') e new) (λ (k : j < i). old k (h j k)) (ℕ_or i j)
   where
     new : Boxed r t'' i
     new = record { x = stays t' t'' _ _ _ q _ _ _ (omega arith) p.here; y = q.here }

@@ -13,14 +13,14 @@ use crate::ring::{around, aside, bends, equal, wedge};
 use refusal::{Checked, Refusal};
 
 // What one pass over the corners finds: a number out of reach, or the first corner that equals the next, the first with a fold (the corners' count where there is none), and twice the area.
-#[derive(Drop)]
+#[derive(Clone, Copy)]
 enum Outline {
     Beyond(usize),
     Drawn(usize, usize, i64),
 }
 
 // The two edges that meet first.
-#[derive(Drop)]
+#[derive(Clone, Copy)]
 enum Pair {
     NoPair,
     Edges(usize, usize),

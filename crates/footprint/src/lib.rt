@@ -1,5 +1,7 @@
 // Which footprints are good, and the leaf functions of numbers and rings that other crates need too.
 // Definitions: the crates `rules`, `refusal` and `decide`.
+#![tactic(auto)]
+
 mod checks;
 mod extent;
 mod number;
