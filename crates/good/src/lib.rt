@@ -1,5 +1,7 @@
 // Which runs, pieces and points are good: the first fault of their numbers, and then of the footprint.
 // The footprint's own checks: the crate `footprint`. Definitions: the crates `rules` and `refusal`; specs/Numbers.antt says which run, piece and point plain numbers are.
+#![tactic(auto)]
+
 ghost use Rattle.rules.specs.Good.{run_checks, piece_checks};
 ghost use Rattle.rules.specs.Place.{place_checks};
 ghost use Rattle.refusal.specs.Said.{Finds};
@@ -11,7 +13,7 @@ use refusal::{Checked, Refusal};
 mod reach;
 
 // A run in plain numbers.
-#[derive(Drop)]
+#[derive(Clone, Copy)]
 pub struct Run {
     pub x: i32,
     pub y: i32,
@@ -23,7 +25,7 @@ pub struct Run {
 }
 
 // A piece in plain numbers, but for its corners, which stand in a list x, y, x, y ..: the heights that it takes up, and its velocity.
-#[derive(Drop)]
+#[derive(Clone, Copy)]
 pub struct Slab {
     pub bottom: i32,
     pub top: i32,
@@ -33,6 +35,7 @@ pub struct Slab {
 }
 
 // Whether a run is good.
+#[tactic(auto, using(crate::proofs::Finds::run_refused))]
 pub fn check_run(run: Run) -> Checked
     ensures { Finds (run_checks (run_of run)) result }
 {
@@ -45,6 +48,7 @@ pub fn check_run(run: Run) -> Checked
 }
 
 // Whether a piece is good: the corners' count, the band's numbers, and then the footprint.
+#[tactic(auto, using(crate::proofs::Finds::piece_refused))]
 pub fn check_piece(slab: Slab, corners: &[i32]) -> Checked
     ensures { Finds (piece_checks (piece_of slab corners.now)) result }
 {
@@ -59,6 +63,7 @@ pub fn check_piece(slab: Slab, corners: &[i32]) -> Checked
 }
 
 // The checks before a place is answered: the point's numbers, then the footprint.
+#[tactic(auto, using(crate::proofs::Finds::place_refused))]
 pub fn check_place(x: i32, y: i32, l: &[i32]) -> Checked
     ensures { Finds (place_checks (pt x y) l.now) result }
 {
