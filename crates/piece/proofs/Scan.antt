@@ -6,7 +6,7 @@ use Prim.Native.Nat.{ℕ, zero, suc, ◌+◌, ◌≤◌, ◌<◌}
 use native.Mathlib.Omega.{arith}
 use native.Mathlib.Numerals.{add-one}
 use lib.IntN.{pos}
-use Rattle.whole.proofs.Order.{ℕ-or}
+use Rattle.whole.proofs.Order.{ℕ_or}
 use Rattle.whole.proofs.Flag.{or_right}
 use Rattle.rules.specs.Ring.{Pt, Ring, from, to}
 use Rattle.rules.specs.Place.{on, inside, outside}
@@ -38,7 +38,7 @@ module _ (r : Ring) (p : Pt) where
   unfolding on_some
   some_later m zero h e = let q : m ≡ 0 = omega arith in subst (λ (k : ℕ). on_some r p k ≡ true) q e
   some_later m (suc n) h e = ⊎_elim (λ (l : suc n ≤ m). let q : m ≡ suc n = omega arith in subst (λ (k : ℕ). on_some r p k ≡ true) q e)
-      (λ (l : m < suc n). rw (some_later m n (omega arith) e)) (ℕ-or (suc n) m)
+      (λ (l : m < suc n). rw (some_later m n (omega arith) e)) (ℕ_or (suc n) m)
 
   pub on_place : (i : ℕ) → i < r.size → is_on p (from r i) (to r i) ≡ true → on ≡ place r p
   unfolding on_some place

@@ -1,5 +1,8 @@
 // The geometry: where a point lies, and when a run meets a piece.
 // What is good: the crate `good`, which also says which run and which piece plain numbers are. Definitions: the crates `rules` and `refusal`.
+
+#![tactic(auto)]
+
 ghost use Rattle.good.specs.Numbers.{run_of, piece_of, pt};
 ghost use Rattle.piece.specs.Place.{Lies};
 ghost use Rattle.piece.specs.Tells.{Tells};
@@ -21,7 +24,7 @@ pub use motion::{Coded, Verdict};
 pub const NONE: u32 = 0xFFFF_FFFF;
 
 // Where a point lies.
-#[derive(Drop)]
+#[derive(Clone, Copy)]
 pub enum Placed {
     On,
     Inside,

@@ -20,7 +20,7 @@ use good::{Run, Slab};
 use refusal::Refusal;
 
 // What a verdict is: clear, the mark of the first contact, or the refusal.
-#[derive(Drop)]
+#[derive(Clone, Copy)]
 pub enum Verdict {
     Clear,
     Mark(u32),
@@ -28,14 +28,14 @@ pub enum Verdict {
 }
 
 // A verdict as a number: the mark, or NONE; or the refusal.
-#[derive(Drop)]
+#[derive(Clone, Copy)]
 pub enum Coded {
     Code(u32),
     Refused(Refusal),
 }
 
 // A point and its velocity against the piece's.
-#[derive(Drop)]
+#[derive(Clone, Copy)]
 pub(crate) struct Motion {
     pub(crate) x: i64,
     pub(crate) y: i64,
@@ -44,7 +44,7 @@ pub(crate) struct Motion {
 }
 
 // An edge from a to b.
-#[derive(Drop)]
+#[derive(Clone, Copy)]
 pub(crate) struct Edge {
     pub(crate) ax: i64,
     pub(crate) ay: i64,

@@ -8,7 +8,7 @@ ghost use Rattle.decide.specs.Span.{raise, lower, none, clip, some, first};
 ghost use Rattle.piece.specs.Moving.{span_of, Crossed, Small, Slope, MarkSteps};
 
 // From low_n/low_d to high_n/high_d, both counted.
-#[derive(Drop)]
+#[derive(Clone, Copy)]
 pub(crate) struct Span {
     pub(crate) low_n: i64,
     pub(crate) low_d: i64,
@@ -71,6 +71,7 @@ fn none(s: Span) -> Span
 }
 
 // The moments t with 0 ≤ a + b t. A divisor's sign is turned before it bounds.
+#[tactic(auto, using(crate::proofs::Moving::clip_none_read, crate::proofs::Moving::clip_all_read))]
 pub(crate) fn clip(s: Span, a: i64, b: i64) -> Span
     requires { Small (span_of s) × Slope a b }
     ensures { span_of result ≡ clip (span_of s) a b }

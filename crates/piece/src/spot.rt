@@ -15,14 +15,14 @@ ghost use Rattle.piece.specs.Place.{pt_of, Near, where_of};
 use crate::number::{at, side};
 use footprint::{around, least, less, most, ranged};
 
-#[derive(Drop)]
+#[derive(Clone, Copy)]
 pub(crate) enum Spot {
     On,
     Inside,
     Outside,
 }
 
-#[derive(Drop)]
+#[derive(Clone, Copy)]
 struct Point {
     x: i64,
     y: i64,
