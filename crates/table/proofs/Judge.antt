@@ -10,7 +10,7 @@ use lib.IntN.{ℤ, pos, negsuc}
 use lib.ListN.{length, get_or}
 use lib.Signed.{le_z, lt_z}
 use borrow.Author.Tests.{eqb-true, eq-eqb, leb-true, le-leb, ltb-true, lt-ltb, le-ltb}
-use Rattle.whole.proofs.Order.{ℕ-or}
+use Rattle.whole.proofs.Order.{ℕ_or}
 use Rattle.whole.proofs.Flag.{decided, or_yes, or_left, or_right, and_yes, and_both, le_true, lt_true, lt_false, true_le}
 use Rattle.rules.specs.Reach.{Between, Reach, Speed, Run, Piece}
 use Rattle.rules.specs.Ring.{Pt, Ring, ring, next, from, to, Neighbours, Share}
@@ -143,7 +143,7 @@ module _ (r : Ring) where
 
   -- a row whose first hit is none has none
   no_row : (i j : ℕ) → (Meet r i (row_of r i) → ⊥) → Meet r i j → ⊥
-  no_row i j f m = ⊎_elim (λ (h : r.size ≤ row_of r i). none_found (row_seeks i) h j m.below m) (λ (h : row_of r i < r.size). f ((row_seeks i).found h)) (ℕ-or r.size (row_of r i))
+  no_row i j f m = ⊎_elim (λ (h : r.size ≤ row_of r i). none_found (row_seeks i) h j m.below m) (λ (h : row_of r i < r.size). f ((row_seeks i).found h)) (ℕ_or r.size (row_of r i))
 
   pub no_pair : r.size ≤ pair_of r → (i j : ℕ) → Meet r i j → ⊥
   no_pair h i j m = no_row i j (none_found pair_seeks h i (let a = m.order in let b = m.below in omega arith)) m
@@ -159,8 +159,8 @@ module _ (r : Ring) where
 abbrev pub pick : ℕ → ℕ → Checked → Checked → Checked
 pick k n bad good = cond (ltb k n) bad good
 
-pick_finds : (cs : List Check) (k n : ℕ) (bad good : Checked) → (k < n → Finds cs bad) → (n ≤ k → Finds cs good) → Finds cs (pick k n bad good)
-pick_finds cs k n bad good f g = ⊎_elim (λ (h : n ≤ k). rw (le-ltb k n h) (g h)) (λ (h : k < n). rw (lt-ltb k n h) (f h)) (ℕ-or n k)
+pick_finds : (cs : List Check) (k n : ℕ) (bad fine : Checked) → (k < n → Finds cs bad) → (n ≤ k → Finds cs fine) → Finds cs (pick k n bad fine)
+pick_finds cs k n bad fine f g = ⊎_elim (λ (h : n ≤ k). rw (le-ltb k n h) (g h)) (λ (h : k < n). rw (lt-ltb k n h) (f h)) (ℕ_or n k)
 
 unfoldable pub shape_of : List ℤ → Checked
 shape_of l =
