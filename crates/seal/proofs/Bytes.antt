@@ -6,7 +6,7 @@ use Prim.Native.Nat.{ℕ, zero, suc, ◌+◌, ◌*◌, ◌-◌, ◌%◌, ◌≤�
 use native.Mathlib.Omega.{arith}
 use lib.ListN.{length, get_or, set, replicate, length-append, length-set, length-replicate, get_or-append}
 use lib.Seq.{get_or-append-add, get_or-set_same, get_or-set_other, ext_get_or}
-use Rattle.whole.proofs.Order.{ℕ-or}
+use Rattle.whole.proofs.Order.{ℕ_or}
 use Rattle.seal.specs.Seal.{block_size, body_size, byte, sum, plain_sum, weighed_sum, filled, block_of, Sealed}
 pub use Rattle.seal.specs.Scan.{Alike}
 
@@ -110,7 +110,7 @@ module _ (front : List ℕ) (few : length front ≤ body_size) where
 
 -- a list of 512 bytes with a right check is the block of what its first bytes are
 last_two : (i : ℕ) → body_size ≤ i → i < block_size → (i ≡ body_size) ⊎ (i ≡ (body_size + 1))
-last_two i h k = ⊎_elim (λ (l : i ≤ body_size). inl (omega arith)) (λ (l : body_size < i). inr (omega arith)) (ℕ-or i body_size)
+last_two i h k = ⊎_elim (λ (l : i ≤ body_size). inl (omega arith)) (λ (l : body_size < i). inr (omega arith)) (ℕ_or i body_size)
 
 pub sealed_is : (l m : List ℕ) → length l ≡ block_size → length m ≡ block_size → Sealed l → Sealed m → Alike l m → l ≡ m
 sealed_is l m n o s t h =
@@ -121,7 +121,7 @@ sealed_is l m n o s t h =
     (λ (e : i ≡ (body_size + 1)). rw e (s.second ∙ weighed_same l m h ∙ sym t.second))
     (last_two i g (omega arith)))
     (λ (g : i < body_size). h i g)
-    (ℕ-or body_size i))
+    (ℕ_or body_size i))
 
 pub block_is : (l front : List ℕ) → length front ≤ body_size → length l ≡ block_size → Sealed l → Alike l front → l ≡ block_of front
 block_is l front few n s h =

@@ -4,6 +4,7 @@ pub mod Cleared
 pub mod Flags
 pub mod Fletcher
 pub mod OneFault
+pub mod Pairs
 pub mod PartLaws
 pub mod Replaced
 pub mod Unique

@@ -7,7 +7,7 @@ use native.Mathlib.Omega.{arith}
 use lib.ListN.{length, take, drop, get_or-append, get_or-eq_default, length-append}
 use lib.Seq.{ext_get_or, length-take-le, get_or-take, get_or-drop, get_or-append-add}
 use Rattle.whole.specs.Front.{Front}
-use Rattle.whole.proofs.Order.{ℕ-or}
+use Rattle.whole.proofs.Order.{ℕ_or}
 use Rattle.seal.specs.Seal.{block_size, body_size, byte, sum, plain_sum, weighed_sum, filled, block_of, SealedAs}
 use Rattle.seal.specs.Parts.{PartsFit, parts_asked, parts_block, WritePartsSays}
 use Rattle.seal.specs.Scan.{Alike, SumsAt, Clean}
@@ -51,7 +51,7 @@ module _ (first last : List ℕ) (at : ℕ) (fit : PartsFit first last at) where
   module _ (z m y : List ℕ) (n : ℕ) (zl : length z ≡ block_size) (zs : Clean z 0 body_size) (b : Front 0 first (length first) z m) (l : (j : ℕ) → j < length last → byte y j ≡ byte last j) where
     first_is : (i : ℕ) → i < body_size → byte m i ≡ byte first i
     first_is i g =
-        ⊎_elim (λ (q : length first ≤ i). b.stays.rest i q ∙ zs i (omega arith) g ∙ sym (get_or-eq_default first 0 {n = i} q)) (λ (q : i < length first). b.first i q) (ℕ-or (length first) i)
+        ⊎_elim (λ (q : length first ≤ i). b.stays.rest i q ∙ zs i (omega arith) g ∙ sym (get_or-eq_default first 0 {n = i} q)) (λ (q : i < length first). b.first i q) (ℕ_or (length first) i)
 
     pub parts_alike : length y ≡ n → n ≡ length last → Alike (mid at n m y) both
     parts_alike e f i g =
@@ -67,9 +67,9 @@ module _ (first last : List ℕ) (at : ℕ) (fit : PartsFit first last at) where
         ∙ get_or-eq_default first 0 {n = at + (n + (i - at - n))} (omega arith)
         ∙ sym (both_last (n + (i - at - n)) ∙ get_or-eq_default last 0 {n = n + (i - at - n)} (omega arith))))
         (λ (p : i - at < n). mid_in m y at n s e (i - at) p ∙ l (i - at) (omega arith) ∙ sym (both_last (i - at)))
-        (ℕ-or n (i - at))))
+        (ℕ_or n (i - at))))
         (λ (q : i < at). mid_before m y at n s e i q ∙ first_is i g ∙ sym (both_first i q))
-        (ℕ-or at i)
+        (ℕ_or at i)
 
   -- ---- the sums, of any weight that zeros do not have
   sums : (g : ℕ → ℕ → ℕ) → ((i : ℕ) → g i 0 ≡ 0) → sum (λ i. g i (byte both i)) body_size ≡ sum (λ i. g i (byte first i)) (length first) + sum (λ j. g (at + j) (byte last j)) (length last)
@@ -134,13 +134,13 @@ module _ (first last : List ℕ) (at : ℕ) (fit : PartsFit first last at) where
         ∙ sym (get_or-take (at + length last - at) (drop at block) (i - at) 0 (omega arith))
         ∙ ap (λ (l : List ℕ). byte l (i - at)) f
         ∙ sym (ap (byte both) (sym d) ∙ both_last (i - at)))
-        (ℕ-or (length last) (i - at)))
+        (ℕ_or (length last) (i - at)))
         (λ (q : i < at).
         ⊎_elim
         (λ (p : length first ≤ i). z i p q ∙ sym (both_first i q ∙ get_or-eq_default first 0 {n = i} p))
         (λ (p : i < length first). sym (get_or-take (length first) block i 0 p) ∙ ap (λ (l : List ℕ). byte l i) e ∙ sym (both_first i q))
-        (ℕ-or (length first) i))
-        (ℕ-or at i)
+        (ℕ_or (length first) i))
+        (ℕ_or at i)
 
     pub made : Alike block both → SealedAs both block → block ≡ block_of both
     made g s = block_is block both both_few n (record { first = s.first ∙ sym (plain_same block both g); second = s.second ∙ sym (weighed_same block both g) }) g

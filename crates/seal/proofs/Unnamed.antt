@@ -5,7 +5,7 @@ use mathlib.Core.List.{List}
 use Prim.Native.Nat.{ℕ, ◌+◌, ◌-◌, ◌≤◌, ◌<◌}
 use native.Mathlib.Omega.{arith}
 use lib.ListN.{length, get_or-eq_default}
-use Rattle.whole.proofs.Order.{ℕ-or}
+use Rattle.whole.proofs.Order.{ℕ_or}
 use Rattle.seal.specs.Seal.{body_size, byte, block_of, NotZero, unnamed_check}
 use Rattle.seal.specs.Scan.{Clean}
 use Rattle.seal.proofs.Bytes.{block_at}
@@ -14,9 +14,9 @@ use Rattle.seal.proofs.Bytes.{block_at}
 pub stable : (a b : ℕ) → ((a ≡ b → ⊥) → ⊥) → a ≡ b
 stable a b f =
     ⊎_elim
-    (λ (h : a ≤ b). ⊎_elim (λ (k : b ≤ a). (omega arith)) (λ (k : a < b). absurd (f (λ e. omega arith))) (ℕ-or b a))
+    (λ (h : a ≤ b). ⊎_elim (λ (k : b ≤ a). (omega arith)) (λ (k : a < b). absurd (f (λ e. omega arith))) (ℕ_or b a))
     (λ (h : b < a). absurd (f (λ e. omega arith)))
-    (ℕ-or a b)
+    (ℕ_or a b)
 
 -- no byte that must be zero is not
 pub clean_from : (l : List ℕ) (from : ℕ) → ((j : ℕ) → j < body_size - from → NotZero l from j → ⊥) → Clean l from body_size

@@ -6,7 +6,7 @@ ghost use Rattle.seal.specs.Seal.{body_size, plain_sum, weighed_sum, block_check
 use crate::layout::{BODY, LAST, SIZE};
 use refusal::{Checked, Refusal};
 
-#[derive(Drop)]
+#[derive(Clone, Copy)]
 pub(crate) struct Sums {
     pub plain: u32,
     pub weighed: u32,
