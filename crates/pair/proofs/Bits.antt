@@ -21,6 +21,11 @@ positive : (z : ℤ) → pos 0 ≤ℤ z → z ≡ pos (word z)
 positive (pos n) h = refl
 positive (negsuc n) h = absurd h.le
 
+-- two bytes are fewer than the machine's four
+pub half_fits : (z : ℤ) → Half z → SFits w32 z
+half_fits (pos n) h = record { sfits = let l = leb→le n 32767 h.below.le in omega arith }
+half_fits (negsuc n) h = record { sfits = let l = leb→le n 32767 h.above.le in omega arith }
+
 pub negative_fits : (z : ℤ) → SFits w32 z → Half z → z <ℤ pos 0 → SFits w32 (to_z w32 (of_z w32 z) +ℤ pos 65536)
 negative_fits z f h k = rw (to_z-of_z f, negative z h k) (record { sfits = let l = word_below z h in omega arith })
 

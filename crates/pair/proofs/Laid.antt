@@ -11,7 +11,7 @@ use lib.Seq.{get_or-set_same, get_or-set_other, ext_get_or}
 use mir.Syntax.{w32}
 use mir.Val.{SFits, to_z, of_z}
 use mir.Facts.{to_z-of_z}
-use Rattle.whole.proofs.Order.{ℕ-or}
+use Rattle.whole.proofs.Order.{ℕ_or}
 use Rattle.whole.proofs.Front.{stored}
 use Rattle.pair.specs.Pair.{word, Spelt, words, NumbersOf}
 use Rattle.pair.proofs.Words.{low_at, high_at, words_length}
@@ -60,7 +60,7 @@ module _ (l : List ℕ) (zs : List ℤ) (long : length l ≡ 2 * length zs) (byt
 
   -- an even place, and an odd one
   place : (i : ℕ) → (i ≡ 2 * (i / 2)) ⊎ (i ≡ suc (2 * (i / 2)))
-  place i = ⊎_elim (λ (h : i % 2 ≤ 0). inl (omega arith)) (λ (h : 0 < i % 2). inr (omega arith)) (ℕ-or (i % 2) 0)
+  place i = ⊎_elim (λ (h : i % 2 ≤ 0). inl (omega arith)) (λ (h : 0 < i % 2). inr (omega arith)) (ℕ_or (i % 2) 0)
 
   is : (i : ℕ) → i < length (words zs) → get_or (words zs) i 0 ≡ get_or l i 0
   is i h =

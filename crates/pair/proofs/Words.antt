@@ -2,14 +2,14 @@
 use mathlib.Core.Path.{◌≡◌, refl, sym, ap, ◌∙◌}
 use mathlib.Core.Logic.{⊎_elim}
 use mathlib.Core.List.{List, [], ◌∷◌, ◌++◌}
-use Prim.Native.Nat.{ℕ, zero, suc, ◌+◌, ◌*◌, ◌/◌, ◌%◌, ◌≤◌, ◌<◌}
+use Prim.Native.Nat.{ℕ, zero, suc, ◌*◌, ◌/◌, ◌%◌, ◌≤◌, ◌<◌}
 use native.Mathlib.Omega.{arith}
 use lib.Dec.{leb→le}
 use lib.IntN.{ℤ, pos, negsuc}
 use lib.ListN.{length, get_or, get_or-eq_default}
 use lib.Seq.{ext_get_or}
 use lib.Signed.{◌≤ℤ◌, le_z_yes}
-use Rattle.whole.proofs.Order.{le_trans, ℕ-or}
+use Rattle.whole.proofs.Order.{le_trans, ℕ_or}
 use Rattle.rules.specs.Reach.{Between, Reach, Speed}
 use Rattle.pair.specs.Pair.{Half, word, Spelt, words, Halves, NumbersOf}
 
@@ -34,7 +34,7 @@ half_any zs h j =
     ⊎_elim
     (λ (g : length zs ≤ j). let e = get_or-eq_default zs (pos 0) g in rw e (record { above = le_z_yes tt; below = le_z_yes tt }))
     (λ (g : j < length zs). h j g)
-    (ℕ-or (length zs) j)
+    (ℕ_or (length zs) j)
 
 -- ---- where each byte stands
 pub low_at : (zs : List ℤ) (j : ℕ) → get_or (words zs) (2 * j) 0 ≡ word (get_or zs j (pos 0)) % 256

@@ -1,5 +1,7 @@
 // Numbers of two bytes, low byte first.
 // specs/Pair.antt says which bytes they are, and what the calls answer and leave.
+#![tactic(auto)]
+
 mod read;
 mod word;
 mod write;
