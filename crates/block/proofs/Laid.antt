@@ -4,23 +4,23 @@ use mathlib.Core.Logic.{◌⊎◌, inl, inr, ⊎_elim}
 use mathlib.Core.List.{List, ◌∷◌}
 use Prim.Native.Nat.{ℕ, zero, suc, ◌+◌, ◌*◌, ◌-◌, ◌/◌, ◌%◌, ◌≤◌, ◌<◌}
 use native.Mathlib.Omega.{arith}
-use lib.Dec.{leb→le}
-use lib.IntN.{ℤ, pos, negsuc}
+use lib.IntN.{ℤ, pos}
 use lib.ListN.{length, get_or, take, drop}
 use lib.Seq.{get_or-take, get_or-drop}
 use mir.Syntax.{w8, w32}
-use mir.Val.{Fits, SFits, to_z, of_z}
+use mir.Val.{Fits, to_z, of_z}
 use mir.Facts.{to_z-of_z}
-use Rattle.whole.proofs.Order.{ℕ-or}
+use Rattle.whole.proofs.Order.{ℕ_or}
 use Rattle.seal.specs.Seal.{block_size, body_size, byte, block_of, Sealed}
-use Rattle.pair.specs.Pair.{Half, word, words, NumbersOf}
+use Rattle.pair.specs.Pair.{word, words, NumbersOf}
 use Rattle.seal.proofs.Bytes.{Alike, block_at, block_is}
+use Rattle.pair.proofs.Bits.{half_fits}
 use Rattle.pair.proofs.Words.{low_at, high_at, words_length, number_at}
 use Rattle.block.specs.Scan.{NumberAt}
 
 -- even or odd
 pub halves : (n : ℕ) → (n % 2 ≡ 0) ⊎ (n % 2 ≡ 0 → ⊥)
-halves n = ⊎_elim (λ (h : n % 2 ≤ 0). inl (omega arith)) (λ (h : 0 < n % 2). inr (λ e. omega arith)) (ℕ-or (n % 2) 0)
+halves n = ⊎_elim (λ (h : n % 2 ≤ 0). inl (omega arith)) (λ (h : 0 < n % 2). inr (λ e. omega arith)) (ℕ_or (n % 2) 0)
 
 -- ---- after a kind and a second byte
 pub front_low_at : (a b : ℕ) (zs : List ℤ) (j : ℕ) → byte (a ∷ b ∷ words zs) (2 + 2 * j) ≡ word (get_or zs j (pos 0)) % 256
@@ -87,10 +87,6 @@ part_number l first n zs a j h =
           ∙ ap (λ m. m + 256 * get_or part (suc (2 * j)) 0) (at (2 * j) (omega arith) ∙ ap (byte l) d)
           ∙ ap (λ m. byte l (2 + 2 * (first + j)) + 256 * m) (at (suc (2 * j)) (omega arith) ∙ ap (byte l) e);
     }
-
-half_fits : (z : ℤ) → Half z → SFits w32 z
-half_fits (pos n) h = record { sfits = let l = leb→le n 32767 h.below.le in omega arith }
-half_fits (negsuc n) h = record { sfits = let l = leb→le n 32767 h.above.le in omega arith }
 
 -- and as a local has it
 pub part_local : (l : List ℕ) (first n : ℕ) (zs : List ℤ) → NumbersOf (take n (drop (2 + 2 * first) l)) zs → (j : ℕ) → 2 * j + 1 < n → NumberAt l (first + j) (to_z w32 (of_z w32 (get_or zs j (pos 0))))

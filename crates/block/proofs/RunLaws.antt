@@ -11,7 +11,7 @@ use lib.Signed.{le_z_yes}
 use mir.Syntax.{w8, w32}
 use mir.Val.{Fits, SFits, to_z, of_z}
 use mir.Facts.{to_z-of_z, to_z_pos}
-use Rattle.whole.proofs.Order.{ℕ-or}
+use Rattle.whole.proofs.Order.{ℕ_or}
 use Rattle.rules.specs.Reach.{Run}
 use Rattle.rules.specs.Refusal.{Passes}
 use Rattle.rules.specs.Good.{RunKnown, run_checks}
@@ -26,6 +26,7 @@ use Rattle.block.specs.Reading.{RunGood, RunIn, inside, run_bytes, run_block_che
 use Rattle.block.specs.Scan.{RunAt}
 use Rattle.seal.proofs.Bytes.{block_length, block_at, block_sealed}
 use Rattle.seal.proofs.Unnamed.{stable, unnamed_front}
+use Rattle.pair.proofs.Bits.{half_fits}
 use Rattle.pair.proofs.Words.{word_one, reach_half, speed_half}
 use Rattle.block.proofs.Laid.{few, Numbers, laid_is, laid_numbers}
 
@@ -51,7 +52,7 @@ module _ (r : Run) (p : Passes (run_checks r)) where
       ⊎_elim
       (λ (g : 6 ≤ j). let e : j ≡ 6 = omega arith in rw e (record { above = le_z_yes tt; below = record { le = le→leb r.ticks 32767 (let h = good_ticks in omega arith) } }))
       (λ (g : j < 6). good_half j g)
-      (ℕ-or 6 j)
+      (ℕ_or 6 j)
 
 -- ---- what a block holds
 module _ (l : List ℕ) (r : plain.Run) (at : RunAt l r) (bytes : (i : ℕ) → Fits w8 (byte l i)) (p : Passes (block_checks l ++ run_bytes l)) where
@@ -146,3 +147,16 @@ machine r =
 
 pub read_run : (r : plain.Run) → SFits w32 r.x → SFits w32 r.y → SFits w32 r.z → SFits w32 r.vx → SFits w32 r.vy → SFits w32 r.vz → r.ticks ≤ 4096 → machine r ≡ run_numbers (run_of r)
 read_run r a b c d e f h = rw (to_z-of_z a, to_z-of_z b, to_z-of_z c, to_z-of_z d, to_z-of_z e, to_z-of_z f, to_z_pos w32 {n = r.ticks} (omega arith))
+
+-- a good run's numbers are within what the machine holds
+pub read_good : (r : plain.Run) → Passes (run_checks (run_of r)) → machine r ≡ run_numbers (run_of r)
+read_good r p =
+    let h = good_half (run_of r) p in
+    read_run r
+    (half_fits r.x (h 0 (omega arith)))
+    (half_fits r.y (h 1 (omega arith)))
+    (half_fits r.z (h 2 (omega arith)))
+    (half_fits r.vx (h 3 (omega arith)))
+    (half_fits r.vy (h 4 (omega arith)))
+    (half_fits r.vz (h 5 (omega arith)))
+    (good_ticks (run_of r) p)

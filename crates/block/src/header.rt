@@ -16,6 +16,7 @@ pub fn read_header(block: &[u8]) -> HeaderRead
     }
 }
 
+#[tactic(auto, unfolding(crate::specs::Reading::header_asked))]
 pub fn write_header(pieces: u32, block: &mut [u8]) -> Checked
     ensures { WriteHeaderSays pieces block.old block.new result }
 {

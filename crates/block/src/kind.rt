@@ -9,7 +9,7 @@ use crate::layout::{EDITION, MOST, PIECE, RUN, letter};
 use refusal::{Checked, Refusal};
 use seal::{check_block, check_unnamed};
 
-#[derive(Drop)]
+#[derive(Clone, Copy)]
 pub enum Kind {
     Header,
     Run,

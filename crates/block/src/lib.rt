@@ -1,5 +1,7 @@
 // What blocks hold: a header or a run as bytes, one block at a time, and the bytes of each kind that are no numbers.
 // specs/Layout.antt makes the bytes of headers and runs, specs/Reading.antt says what reading and writing answer.
+#![tactic(auto)]
+
 mod header;
 mod kind;
 mod layout;
@@ -13,13 +15,13 @@ use refusal::Refusal;
 pub use runs::{read_run, write_run, write_run_body};
 
 // A header's piece count.
-#[derive(Drop)]
+#[derive(Clone, Copy)]
 pub enum HeaderRead {
     Count(u32),
     NoHeader(Refusal),
 }
 
-#[derive(Drop)]
+#[derive(Clone, Copy)]
 pub enum RunRead {
     Found(Run),
     NoRun(Refusal),

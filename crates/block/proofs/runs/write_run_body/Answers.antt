@@ -1,0 +1,30 @@
+-- `block::runs::write_run_body` meets its contract: the numbers of a good run are what two bytes hold. Assumes nothing.
+use Rattle.std.proofs.Common.{refl, sym, subst, List, arith}
+use mathlib.Core.Logic.{inl, inr}
+use lib.IntN.{ℤ}
+use Rattle.good.specs.Numbers.{run_of}
+use Rattle.pair.specs.Pair.{WritePairsSays}
+use Rattle.pair.proofs.Caller.{pairs_written}
+use Rattle.block.specs.Layout.{run_numbers, run_body}
+use Rattle.block.specs.Reading.{run_body_asked, WriteRunBodySays}
+use Rattle.block.proofs.RunLaws.{good_ticks, good_halves, read_good}
+use Rattle.block.proofs.runs.write_run_body.Goals as goal
+
+pub returns-then-bytes-ne-RUN_BODY : goal.returns-then-bytes-ne-RUN_BODY
+unfolding run_body_asked
+returns-then-bytes-ne-RUN_BODY c = (inl (c.if-bytes-ne-RUN_BODY.true, refl), refl)
+
+pub overflow_cast-ticks : goal.overflow_cast-ticks
+overflow_cast-ticks c = let h = good_ticks (run_of c.args.run) c.in-Good.ensures in record { sfits = omega arith }
+
+pub returns-in-Refused : goal.returns-in-Refused
+unfolding run_body_asked
+returns-in-Refused c = (inr (c.if-bytes-ne-RUN_BODY.false, c.in-Refused.ensures), refl)
+
+pub returns-in-Good : goal.returns-in-Good
+unfolding run_body_asked run_body
+returns-in-Good c =
+    let a = c.args in let w = c.write_pairs in let r = run_of a.run in let n = c.if-bytes-ne-RUN_BODY.false in let good = c.in-Good.ensures in
+    let f = subst (λ (zs : List ℤ). WritePairsSays zs a.bytes.now w.new.bytes w.result) (read_good a.run good) w.ensures in
+    let p = pairs_written (run_numbers r) a.bytes.now w.new.bytes w.result f n (good_halves r good) in
+    subst (WriteRunBodySays r a.bytes.now w.new.bytes) (sym p.0) ((n, good), p.1)
