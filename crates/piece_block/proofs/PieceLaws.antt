@@ -13,7 +13,7 @@ use mir.Val.{Fits, SFits, to_z, of_z}
 use mir.Facts.{to_z-of_z}
 use Rattle.whole.specs.Decide.{Seeks}
 use Rattle.whole.proofs.Decide.{onward}
-use Rattle.whole.proofs.Order.{ℕ-or}
+use Rattle.whole.proofs.Order.{ℕ_or}
 use Rattle.rules.specs.Reach.{Corners, Piece}
 use Rattle.rules.specs.Ring.{ring}
 use Rattle.rules.specs.Refusal as rules
@@ -80,7 +80,7 @@ module _ (k : Piece) (p : Passes (piece_checks k)) where
   good_half (suc (suc (suc (suc zero)))) = speed_half k.speed.z (known.band 4 (omega arith))
   good_half (suc (suc (suc (suc (suc j))))) =
       ⊎_elim (λ (h : length k.corners ≤ j). rw (get_or-eq_default k.corners (pos 0) h) zero_half)
-      (λ (h : j < length k.corners). reach_half (get_or k.corners j (pos 0)) (known.corners j h)) (ℕ-or (length k.corners) j)
+      (λ (h : j < length k.corners). reach_half (get_or k.corners j (pos 0)) (known.corners j h)) (ℕ_or (length k.corners) j)
 
   pub good_held : Held k
   good_held = record { few = sized_most k.corners good_sized; halves = λ j h. good_half j }
@@ -224,14 +224,14 @@ module _ (l : List ℕ) (b : Slab) (a : List ℤ) (bytes : (i : ℕ) → Fits w8
         zero_at (3 + 2 * (5 + n)) (omega arith) (omega arith),
       ))
       (λ (g : n < 2 * byte l 1). rw (get_or-take (2 * byte l 1) a n (pos 0) g) (corners.each n g).bits)
-      (ℕ-or (2 * byte l 1) n)
+      (ℕ_or (2 * byte l 1) n)
 
   corner_half : (n : ℕ) → Half (get_or (take (2 * byte l 1) a) n (pos 0))
   corner_half n =
       ⊎_elim
       (λ (g : 2 * byte l 1 ≤ n). rw (past n g) zero_half)
       (λ (g : n < 2 * byte l 1). rw (get_or-take (2 * byte l 1) a n (pos 0) g) (corners.each n g).half)
-      (ℕ-or (2 * byte l 1) n)
+      (ℕ_or (2 * byte l 1) n)
 
   numbers : Numbers l (piece_numbers held)
   unfolding held

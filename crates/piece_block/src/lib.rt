@@ -1,5 +1,7 @@
 // A piece block: a piece as 512 bytes, read and written, and the verdict of a run on the piece in a block.
 // specs/Layout.antt makes its bytes, specs/Reading.antt says what reading and writing answer, specs/Verdicts.antt what a verdict on a block answers.
+#![tactic(auto)]
+
 mod pieces;
 mod scan;
 mod verdicts;
@@ -10,7 +12,7 @@ use refusal::Checked;
 pub use verdicts::verdict_in;
 
 // A piece: its corners stand first in the array, x, y, x, y .., and zeros after them; all is zero where it is refused.
-#[derive(Drop)]
+#[derive(Clone, Copy)]
 pub struct PieceRead {
     pub found: Checked,
     pub slab: Slab,
