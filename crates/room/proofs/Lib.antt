@@ -1,7 +1,6 @@
 pub mod Coding
 pub mod Images
 pub mod InOrder
-pub mod ReaderType
 pub mod RoundTrip
 pub mod Steps
 pub mod Unique

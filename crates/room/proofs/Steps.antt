@@ -13,7 +13,7 @@ use Rattle.room.specs.declared.Found.TheVariants.{End, Refused}
 use Rattle.room.specs.declared.Step.{Step}
 use Rattle.seal.specs.Seal.{block_at}
 use Rattle.room.specs.Image.{count, head_checks, Has}
-use Rattle.room.specs.Step.{Gives, StepFault, head, block, StepFinds, StepSays}
+use Rattle.room.specs.Step.{Gives, StepFault, block, StepFinds, StepSays}
 use Rattle.room.specs.Made.{NoPiece, step_of}
 
 -- what reading a block found, where its answer is known

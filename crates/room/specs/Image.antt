@@ -4,7 +4,6 @@ use Rattle.rules.specs.Refusal as rules
 use Rattle.rules.specs.Refusal.{refuse, in_block, Check, Passes, Fault, demand}
 use Rattle.rules.specs.Reach.{Pieces, Piece}
 use Rattle.rules.specs.Good.{piece_checks}
-use Rattle.refusal.specs.declared.Refusal.{Refusal}
 use Rattle.refusal.specs.Said.{said_in}
 use Rattle.seal.specs.Seal.{block_size, byte, Blocks, block_at}
 use Rattle.block.specs.Layout.{header_block}

@@ -1,5 +1,7 @@
 // Rooms: an image of blocks, read piece by piece, and the verdicts of a run on each piece.
 // specs/Image.antt says what an image is, specs/Step.antt what a step finds, specs/Verdicts.antt what the lent list holds.
+#![tactic(auto)]
+
 mod cursor;
 mod image;
 mod pass;
@@ -10,14 +12,14 @@ pub use pass::verdicts;
 use refusal::Refusal;
 
 // What reading a room finds: the piece count, or a refusal and its block.
-#[derive(Drop)]
+#[derive(Clone, Copy)]
 pub enum Counted {
     Count(usize),
     Refused(Refusal, usize),
 }
 
 // What a step of a reader finds.
-#[derive(Drop)]
+#[derive(Clone, Copy)]
 pub enum Found {
     Piece,
     End,
@@ -25,7 +27,7 @@ pub enum Found {
 }
 
 // A step: what was found, the piece where one was and zeros elsewhere, and the place of the next step.
-#[derive(Drop)]
+#[derive(Clone, Copy)]
 pub struct Step {
     pub found: Found,
     pub slab: Slab,
@@ -35,7 +37,7 @@ pub struct Step {
 }
 
 // A reader: the room image and its place in it.
-#[derive(Drop)]
+#[derive(Clone, Copy)]
 pub struct Reader<'a> {
     pub image: &'a [u8],
     pub place: usize,

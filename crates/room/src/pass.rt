@@ -19,7 +19,7 @@ use refusal::{Checked, Refusal};
 use seal::SIZE;
 
 // The verdicts on the pieces of a room, coded.
-#[derive(Drop)]
+#[derive(Clone, Copy)]
 pub(crate) struct Codes {
     pub(crate) found: Counted,
     pub(crate) codes: [u32; MOST],
