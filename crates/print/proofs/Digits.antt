@@ -7,7 +7,7 @@ use native.Mathlib.Omega.{arith}
 use native.Mathlib.Nat.{pow-suc, one-le-pow}
 use borrow.Author.Tests.{lt-ltb, le-ltb}
 use lib.ListN.{length, length-append}
-use Rattle.whole.proofs.Order.{ℕ-or}
+use Rattle.whole.proofs.Order.{ℕ_or}
 use Rattle.io.specs.Digits as io
 use Rattle.io.specs.Digits.{IsDigitCount}
 use Rattle.print.specs.Digits.{digits_in, digits}
@@ -19,7 +19,7 @@ few (suc k) n =
     ⊎_elim
     (λ (h : 10 ≤ n). rw (le-ltb n 10 h) (omega (arith, few k (n / 10), length-append (digits_in k (n / 10)) ((48 + n % 10) ∷ []))))
     (λ (h : n < 10). rw (lt-ltb n 10 h) (omega arith))
-    (ℕ-or 10 n)
+    (ℕ_or 10 n)
 
 -- more than one digit: ten or more
 more : (n r : ℕ) → IsDigitCount 10 1 n (suc (suc r)) → 10 ^ r * 10 ≤ n

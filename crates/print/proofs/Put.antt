@@ -6,7 +6,7 @@ use Prim.Native.Nat.{ℕ, ◌+◌, ◌-◌, ◌≤◌, ◌<◌, min}
 use native.Mathlib.Omega.{arith}
 use lib.ListN.{length, set, get_or, length-append, length-set, get_or-append}
 use lib.Seq.{get_or-set_same, get_or-set_other, get_or-append-add}
-use Rattle.whole.proofs.Order.{ℕ-or}
+use Rattle.whole.proofs.Order.{ℕ_or}
 use Rattle.print.specs.Put.{LAST, Puts}
 
 pub none : (l : List ℕ) (at : ℕ) → at ≤ LAST → Puts l at [] l at
@@ -59,13 +59,13 @@ module _ {a b c v w : List ℕ} {i j n : ℕ} (p : Puts a i v b j) (q : Puts b j
       ⊎_elim
       (λ (r : j ≤ k). q.upper k (omega (arith, p.end, q.end)) ∙ p.lower k h)
       (λ (r : k < j). q.lower k r ∙ p.lower k h)
-      (ℕ-or j k)
+      (ℕ_or j k)
 
   pub then : Puts a i (v ++ w) c n
   then = record {
     end = last;
     size = q.size ∙ p.size;
-    within = λ k h g. ⊎_elim (λ (r : j ≤ i + k). from_second k r h g) (λ (r : i + k < j). from_first k r g) (ℕ-or j (i + k));
+    within = λ k h g. ⊎_elim (λ (r : j ≤ i + k). from_second k r h g) (λ (r : i + k < j). from_first k r g) (ℕ_or j (i + k));
     lower = below;
     upper = λ k h. q.upper k h ∙ p.upper k (omega (arith, p.end, q.end));
   }

@@ -6,7 +6,7 @@ use Prim.Native.Nat.{ℕ, ◌+◌, ◌-◌, ◌≤◌, ◌<◌}
 use native.Mathlib.Omega.{arith}
 use lib.ListN.{length, get_or}
 use lib.Seq.{ext_get_or}
-use Rattle.whole.proofs.Order.{ℕ-or}
+use Rattle.whole.proofs.Order.{ℕ_or}
 use Rattle.print.specs.Put.{Puts}
 
 module _ (l : List ℕ) (at : ℕ) (text a b : List ℕ) (m n : ℕ) (p : Puts l at text a m) (q : Puts l at text b n) where
@@ -27,8 +27,8 @@ module _ (l : List ℕ) (at : ℕ) (text a b : List ℕ) (m n : ℕ) (p : Puts l
       ⊎_elim
       (λ (s : at ≤ k). same_text k s r (omega (arith, p.size)))
       (λ (s : k < at). p.lower k s ∙ sym (q.lower k s))
-      (ℕ-or at k))
-      (ℕ-or m k)
+      (ℕ_or at k))
+      (ℕ_or m k)
 
   pub one_buffer : a ≡ b
   one_buffer = ext_get_or 0 a b (p.size ∙ sym q.size) same

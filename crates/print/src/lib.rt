@@ -1,5 +1,7 @@
 // Text put into a lent buffer, one part after the other: bytes, words, and decimal numbers.
 // Each call takes the place to put at and answers the place after. What goes past the buffer's end is left out, and the place then lies past it too.
+#![tactic(auto)]
+
 ghost use Rattle.std.specs.Prelude.{◌+◌, ◌≤◌, [], ◌∷◌, ◌++◌, length};
 ghost use Rattle.print.specs.Digits.{digits};
 ghost use Rattle.print.specs.Put.{Puts};
