@@ -1,4 +1,6 @@
 // The lines that a program prints of a refusal, put at the begin of a lent buffer.
+#![tactic(auto)]
+
 ghost use Rattle.std.specs.Prelude.{◌≤◌};
 ghost use Rattle.refusal.specs.Said.{said, said_in};
 ghost use Rattle.print.specs.Put.{Puts};
