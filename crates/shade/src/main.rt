@@ -1,17 +1,36 @@
 // The printing program: a run block and a room image on standard input, the verdicts as lines on standard output.
+#![tactic(auto)]
+
 mod answer;
 mod line;
 
-use libc::{STDIN_FILENO, STDOUT_FILENO};
+ghost use Rattle.std.specs.Prelude.{IfOk};
+ghost use Rattle.io.specs.Counts.{IsPrefixLen};
 
-// One byte more than the longest input tells one that is too long. A read that fails counts as the end. A write that
-// fails is told on standard error: a program here has no exit status of its own.
-fn main() {
+use std::io;
+use std::io::Read;
+
+// Reads until the buffer is full or the input ends, and answers how many bytes it put at the buffer's begin.
+fn read_full<R: Read>(reader: &mut R, buf: &mut [u8]) -> io::Result<usize>
+    ensures { IfOk result (λ n. IsPrefixLen n buf.new) }
+{
+    let mut done = 0;
+    while done < buf.len() {
+        let n = reader.read(&mut buf[done..])?;
+        if n == 0 {
+            break;
+        }
+        done += n;
+    }
+    Ok(done)
+}
+
+// One byte more than the longest input tells one that is too long. A read or a write that fails ends the program with
+// its error.
+fn main(rt: HostRuntime) -> io::Result<()> {
     let mut input = [0u8; 65537];
-    let n = io::read_full(STDIN_FILENO, &mut input);
+    let n = read_full(&mut rt.reader(), &mut input)?;
     let mut out = [0u8; 6328];
     let k = answer::answer(&input[..n], &mut out);
-    if !io::write_all(STDOUT_FILENO, &out[..k]) {
-        os::fail(b"shade: standard output");
-    }
+    rt.write_all(&out[..k])
 }

@@ -1,0 +1,18 @@
+-- `shade::answer::answer_blocks` meets its contract: a refused run has its line, a good one the answer of the room. Assumes nothing.
+use Rattle.std.proofs.Common.{refl, arith, length-take}
+use Rattle.shade.specs.Text.{bad_run}
+use Rattle.shade.proofs.Found.{whole}
+use Rattle.shade.proofs.answer.answer_blocks.Goals as goal
+
+pub slice_bounds-read_run-end : goal.slice_bounds-read_run-end
+slice_bounds-read_run-end c = omega (arith, length-take 512 c.args.input.now)
+
+pub returns-in-NoRun : goal.returns-in-NoRun
+returns-in-NoRun c =
+    let p = c.run_line.ensures.puts in
+    record {
+      text = _;
+      answers = bad_run c.requires.1 _ c.in-NoRun.ensures refl;
+      room = whole p (omega (arith, c.run_line.ensures.upper_bound)) c.requires.0;
+      puts = p;
+    }

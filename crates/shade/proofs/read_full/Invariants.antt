@@ -1,0 +1,9 @@
+-- What is read so far is within the buffer. Assumes nothing.
+use Rattle.std.proofs.Common.{length, ◌-◌, ◌≤◌}
+use Rattle.shade.proofs.read_full.Given as goal
+
+abbrev pub invariant-loop-done : goal.invariant-loop-done
+invariant-loop-done g l = l.done ≤ length l.buf
+
+abbrev pub decreases-loop-done : goal.decreases-loop-done
+decreases-loop-done g l = length l.initial.buf - l.done
