@@ -5,7 +5,7 @@ use mathlib.Core.List.{List, ◌++◌}
 use Prim.Native.Nat.{ℕ, zero, suc, ◌+◌, ◌-◌, ◌≤◌, ◌<◌}
 use native.Mathlib.Omega.{arith}
 use lib.ListN.{length}
-use Rattle.whole.proofs.Order.{ℕ-or}
+use Rattle.whole.proofs.Order.{ℕ_or}
 use Rattle.rules.specs.Reach.{Run, Piece}
 use Rattle.rules.specs.Refusal.{Passes}
 use Rattle.seal.specs.Seal.{byte, block_at, Sealed}
@@ -37,9 +37,9 @@ module _ (slot key : List ℕ) (ticks c : ℕ) (n : length key ≡ key_length) w
         (λ (g : code_at ≤ i). ⊎_elim
         (λ (f : code_end ≤ i). d.rest_zero i f h ∙ sym (at_rest (opening key) c long i f))
         (λ (f : i < code_end). code_equal i g f)
-        (ℕ-or code_end i))
+        (ℕ_or code_end i))
         (λ (g : i < code_at). front_equal i g ∙ sym (at_front (opening key) c long i g))
-        (ℕ-or code_at i)
+        (ℕ_or code_at i)
 
     pub sound_of : length slot ≡ 512 → Sound slot key ticks c
     unfolding entry_of

@@ -7,7 +7,7 @@ use native.Mathlib.Nat.{mod-lt}
 use native.Mathlib.Omega.{arith}
 use lib.ListN.{length, take, drop}
 use lib.Seq.{ext_get_or, drop-drop}
-use Rattle.whole.proofs.Order.{ℕ-or}
+use Rattle.whole.proofs.Order.{ℕ_or}
 use Rattle.seal.specs.Seal.{byte, block_at}
 use Rattle.seal.proofs.Blocks.{nth_length, nth_byte, nth_size}
 use Rattle.seal.proofs.Replaced.{mid, mid_length, mid_part, mid_before, mid_after}
@@ -51,4 +51,4 @@ module _ (b s : List ℕ) (i : ℕ) (l : length s ≡ 512) (h : 512 * suc i ≤ 
       ext_get_or 0 _ _ (e ∙ sym (nth_length b k g)) (λ j q. let r : j < 512 = omega (arith, e) in nth_byte (put b i s) k j r ∙ put_other (512 * k + j) (apart j r) ∙ sym (nth_byte b k j r))
     where
       apart : (j : ℕ) → j < 512 → (512 * k + j < 512 * i) ⊎ (512 * suc i ≤ 512 * k + j)
-      apart j r = ⊎_elim (λ (q : i ≤ k). ⊎_elim (λ (w : k ≤ i). absurd (n (omega arith))) (λ (w : i < k). inr (omega arith)) (ℕ-or k i)) (λ (q : k < i). inl (omega arith)) (ℕ-or i k)
+      apart j r = ⊎_elim (λ (q : i ≤ k). ⊎_elim (λ (w : k ≤ i). absurd (n (omega arith))) (λ (w : i < k). inr (omega arith)) (ℕ_or k i)) (λ (q : k < i). inl (omega arith)) (ℕ_or i k)

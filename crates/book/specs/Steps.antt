@@ -51,7 +51,7 @@ abbrev pub Keeps : List ℕ → List ℕ → ℕ → List ℕ → ℕ → Type 0
 Keeps book after i first c = after ≡ put book i (block_of (first ++ four c))
 
 -- a good question is worked out and kept; another changes nothing
-pub record Worked-out (book after : List ℕ) (i : ℕ) (first : List ℕ) (r : Run) (k : Piece) (c : ℕ) : Type 0 where
+pub record WorkedOut (book after : List ℕ) (i : ℕ) (first : List ℕ) (r : Run) (k : Piece) (c : ℕ) : Type 0 where
   pub passes : Passes (verdict_checks r k)
   pub small : c < 4294967296
   pub verdict : Verdict r k (answer c)
@@ -59,5 +59,5 @@ pub record Worked-out (book after : List ℕ) (i : ℕ) (first : List ℕ) (r : 
 
 abbrev pub Works : List ℕ → List ℕ → ℕ → List ℕ → Run → Piece → Asked → Type 0
 Works book after i first r k (Remembered c) = ⊥
-Works book after i first r k (Worked c) = Worked-out book after i first r k c
+Works book after i first r k (Worked c) = WorkedOut book after i first r k c
 Works book after i first r k (Refused x) = Fault (verdict_checks r k) (said x) × (after ≡ book)

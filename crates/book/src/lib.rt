@@ -1,4 +1,7 @@
 // The book of remembered verdicts: slots of 512 bytes, each an entry for one run and one piece.
+
+#![tactic(auto)]
+
 mod front;
 mod slot;
 
@@ -17,7 +20,7 @@ use refusal::{Checked, Refusal};
 use seal::SIZE;
 
 // A verdict, coded as in an entry, that was remembered or worked out; or the refusal.
-#[derive(Drop)]
+#[derive(Clone, Copy)]
 pub enum Asked {
     Remembered(u32),
     Worked(u32),

@@ -13,7 +13,7 @@ use piece::NONE;
 use seal::{SIZE, is_parts, write_parts};
 
 // What a slot remembers of a question.
-#[derive(Drop)]
+#[derive(Clone, Copy)]
 pub(crate) enum Memory {
     Code(u32),
     Nothing,

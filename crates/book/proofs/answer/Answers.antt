@@ -1,0 +1,43 @@
+-- `book::answer` meets its contract: what a look finds, and else what is worked out, by the laws of Asking. Assumes nothing.
+use Rattle.std.proofs.Common.{◌≡◌, refl, ◌∙◌, List, ℕ, ◌+◌, ◌%◌, arith}
+use Rattle.rules.specs.Reach.{Run, Piece}
+use Rattle.rules.specs.Refusal.{Passes}
+use Rattle.rules.specs.Good.{run_checks}
+use Rattle.rules.proofs.Reach.{run_known}
+use Rattle.good.specs.Numbers.{run_of, piece_of}
+use Rattle.seal.specs.Seal.{byte, sum}
+use Rattle.book.specs.declared.slot.Memory.TheVariants.{Code, Nothing}
+use Rattle.book.specs.Entry.{Slots, slots, key_length}
+use Rattle.book.specs.Steps.{Begun}
+use Rattle.book.proofs.Asking.{Asking, in_book, piece_fault, hits, works}
+use Rattle.book.proofs.answer.Goals as goal
+
+asking : (book front : List ℕ) (r : Run) (k : Piece) (end i : ℕ) → Slots book → Passes (run_checks r) → Begun r k front end
+    → i ≡ sum (λ j. byte front (2 + j)) key_length % slots book → Asking book front r k end i
+asking book front r k end i s p b e = record { sized = s; good = p; begun = b; at = e }
+
+pub look-requires : goal.look-requires
+look-requires c =
+    let a = c.args in let p = c.requires in let r = run_of a.run in let k = piece_of a.slab a.corners.now in let d = c.lay-end in let h = c.home_of-at in
+    let q = asking a.book.now d.new.front r k d.result h.result p.0 p.1.good d.ensures h.ensures in (
+      in_book a.book.now d.new.front r k d.result h.result q,
+      (record { long = d.auto.front ∙ p.1.long; within = d.ensures.within }, run_known r p.1.good 6 (omega arith)),
+    )
+
+pub returns-in-Nothing : goal.returns-in-Nothing
+returns-in-Nothing c =
+    let a = c.args in let p = c.requires in let r = run_of a.run in let k = piece_of a.slab a.corners.now in let d = c.lay-end in let h = c.home_of-at in
+    let q = asking a.book.now d.new.front r k d.result h.result p.0 p.1.good d.ensures h.ensures in
+    works a.book.now d.new.front r k d.result h.result q Nothing c.in-Nothing.ensures c.work.new.book c.work.result refl c.work.ensures
+
+pub returns-in-Refused : goal.returns-in-Refused
+returns-in-Refused c =
+    let a = c.args in let p = c.requires in let r = run_of a.run in let k = piece_of a.slab a.corners.now in let d = c.lay-end in let h = c.home_of-at in
+    let q = asking a.book.now d.new.front r k d.result h.result p.0 p.1.good d.ensures h.ensures in
+    piece_fault a.book.now d.new.front r k d.result h.result q c.in-Refused.x c.in-Refused.ensures
+
+pub returns-in-Good : goal.returns-in-Good
+returns-in-Good c =
+    let a = c.args in let p = c.requires in let r = run_of a.run in let k = piece_of a.slab a.corners.now in let d = c.lay-end in let h = c.home_of-at in
+    let q = asking a.book.now d.new.front r k d.result h.result p.0 p.1.good d.ensures h.ensures in
+    hits a.book.now d.new.front r k d.result h.result q (Code c.in-Code.c) c.in-Code.ensures c.in-Code.c refl c.in-Good.ensures

@@ -1,0 +1,56 @@
+-- `book::front::lay` meets its contract: the run's bytes, and then the piece's, which are promised of a good one. Assumes nothing.
+use Rattle.std.proofs.Common.{◌≡◌, ◌∙◌, List, ℕ, arith, length, set, take, drop, length-set}
+use Rattle.rules.specs.Reach.{Run}
+use Rattle.rules.specs.Refusal.{Passes}
+use Rattle.rules.specs.Good.{run_checks}
+use Rattle.rules.proofs.Checks.{never_both}
+use Rattle.refusal.specs.declared.Checked.{Checked}
+use Rattle.refusal.proofs.Unique.{written}
+use Rattle.good.specs.Numbers.{run_of, piece_of}
+use Rattle.block.specs.Layout.{run_body_size, run_body}
+use Rattle.block.specs.Reading.{run_body_asked, WriteRunBodySays}
+use Rattle.piece_block.specs.Reading.{piece_body_asked}
+use Rattle.seal.proofs.Replaced.{mid, part_length}
+use Rattle.piece_block.proofs.PieceLaws.{good_asked}
+use Rattle.block.proofs.OneFault.{definite_run_body_asked}
+use Rattle.piece_block.proofs.OneFault.{definite_piece_body_asked}
+use Rattle.book.specs.Entry.{kind, piece_at, piece_length, code_at}
+use Rattle.book.proofs.Lay.{headed_length, begin, begin_bad}
+use Rattle.book.proofs.front.lay.Goals as goal
+
+-- ---- what is given, the run's bytes, and the parts for them and for the piece's
+module _ (r : Run) (front bytes : List ℕ) (z : length front ≡ code_at) (good : Passes (run_checks r)) where
+  abbrev begun : List ℕ
+  begun = set (set front 0 kind) 1 0
+
+  abbrev part : List ℕ
+  part = take run_body_size (drop 2 begun)
+
+  part_long : length part ≡ run_body_size
+  part_long = part_length begun 2 run_body_size (simp length-set (omega (arith, z)))
+
+  module _ (w : Checked) (s : WriteRunBodySays r part bytes w) where
+    laid : bytes ≡ run_body r
+    unfolding run_body_asked
+    laid = (written (run_body_asked part r) (definite_run_body_asked part r) (run_body r) part bytes w s (part_long, good)).1
+
+    abbrev part_2 : List ℕ
+    part_2 = take piece_length (drop piece_at (mid 2 run_body_size begun bytes))
+
+    part_2_long : length part_2 ≡ piece_length
+    part_2_long = part_length (mid 2 run_body_size begun bytes) piece_at piece_length (omega (arith, headed_length r front bytes z laid))
+
+pub returns-in-Refused : goal.returns-in-Refused
+returns-in-Refused c =
+    let a = c.args in let q = c.requires in let w = c.write_run_body in let r = run_of a.run in let k = piece_of a.slab a.corners.now in
+    let part = part_2 r a.front.now w.new.bytes q.long q.good w.result w.ensures in
+    let n = part_2_long r a.front.now w.new.bytes q.long q.good w.result w.ensures in
+    begin_bad _ k _ (λ p. never_both (piece_body_asked part k) (definite_piece_body_asked part k) _ (good_asked k p part n) c.in-Refused.ensures.0)
+
+pub returns-in-Good : goal.returns-in-Good
+unfolding piece_body_asked
+returns-in-Good c =
+    let a = c.args in let q = c.requires in let w = c.write_run_body in let v = c.write_piece_body in let r = run_of a.run in let t = c.in-Good.ensures in
+    let b = laid r a.front.now w.new.bytes q.long q.good w.result w.ensures in
+    let n = part_2_long r a.front.now w.new.bytes q.long q.good w.result w.ensures in
+    begin r a.front.now w.new.bytes q.long b (piece_of a.slab a.corners.now) v.new.bytes (v.auto.bytes ∙ n) t.1 t.0.1.0.most _ (omega arith)
