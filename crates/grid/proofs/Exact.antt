@@ -15,7 +15,7 @@ use lib.Ieee.Back.{round_whole}
 use Rattle.whole.specs.Fraction.{Frac, whole}
 use Rattle.whole.proofs.Difference.{all4, ring}
 use Rattle.grid.specs.Number.{signed, value, Is, grid, sixteenfold, Scaled, Within, Export}
-use Rattle.grid.proofs.Value.{signed_mul, size_within, ≈-sym, is_same, within_same}
+use Rattle.grid.proofs.Value.{signed_mul, size_within, ≈_sym, is_same, within_same}
 use Rattle.grid.proofs.Bits.{one_value}
 
 -- ---- what fits binary32: fewer than 25 digits, and no unit below 2^-149
@@ -116,7 +116,7 @@ exact (inf s) f v i w = absurd i
 exact (fin s m e) f v i w =
     let u = value s m e in
     is_same (mul binary32 (fin s m e) sixteen) (sixteenfold u) (sixteenfold v) (times_same u.num v.den v.num u.den i)
-    (by_value s m e f (within_same v u (≈-sym u v i) w))
+    (by_value s m e f (within_same v u (≈_sym u v i) w))
 
 -- ---- a whole number of at most 24 digits
 -- its sign, zero's being plus

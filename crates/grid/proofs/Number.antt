@@ -17,7 +17,7 @@ use Rattle.rules.specs.Reach.{Reach}
 use Rattle.grid.specs.declared.Taken.TheVariants.{Grid, OffGrid, NotNumber, Beyond}
 use Rattle.grid.specs.declared.Taken.{Taken}
 use Rattle.grid.specs.Number.{value, Is, grid, Within, Worth, Answer, sixteenfold, Scaled, Bounded, Floored}
-use Rattle.grid.proofs.Value.{≈-≼, ≈-sym, ≈-trans, within_same, lt_yes, lt_no, eq_yes, eq_no}
+use Rattle.grid.proofs.Value.{≈-≼, ≈_sym, ≈_trans, within_same, lt_yes, lt_no, eq_yes, eq_no}
 use Rattle.grid.proofs.Exact.{int_is, export}
 
 -- the numbers of the code, by their values
@@ -32,25 +32,25 @@ sixteenth = fin false 1 (negsuc 3)
 
 -- ---- the answer of a number is that of its value, however this is written
 pub worth_same : (u v : Frac) → u ≈ v → (t : Taken) → Worth u t → Worth v t
-worth_same u v e (Grid k) h = (within_same u v e h.0, ≈-trans (grid k) u v h.1 e)
+worth_same u v e (Grid k) h = (within_same u v e h.0, ≈_trans (grid k) u v h.1 e)
 worth_same u v e (OffGrid w) h =
     let o = h.1 in (
       within_same u v e h.0,
       record {
         k = o.k;
         above = lt_then_le (grid o.k) u v o.above (≈-≼ u v e);
-        next = le_then_lt v u (grid (o.k +ℤ pos 1)) (≈-≼ v u (≈-sym u v e)) o.next;
+        next = le_then_lt v u (grid (o.k +ℤ pos 1)) (≈-≼ v u (≈_sym u v e)) o.next;
         export = o.export;
       },
     )
 worth_same u v e NotNumber h = h
-worth_same u v e Beyond h = λ w. h (within_same v u (≈-sym u v e) w)
+worth_same u v e Beyond h = λ w. h (within_same v u (≈_sym u v e) w)
 
 module _ (v : Frac) (t : Taken) where
   pub answer_of : (x : Float) → Is x v → Worth v t → Answer x t
   answer_of nan i h = absurd i
   answer_of (inf s) i h = absurd i
-  answer_of (fin s m e) i h = worth_same v (value s m e) (≈-sym (value s m e) v i) t h
+  answer_of (fin s m e) i h = worth_same v (value s m e) (≈_sym (value s m e) v i) t h
 
   pub answer_worth : (x : Float) → Is x v → Answer x t → Worth v t
   answer_worth nan i h = absurd i
@@ -174,5 +174,5 @@ taken_reach nan k h = absurd (let z : ◌≡◌ {A = ℕ} 0 1 = cc in omega arit
 taken_reach (inf s) k h = absurd (let z : ◌≡◌ {A = ℕ} 0 1 = cc in omega arith)
 taken_reach (fin s m e) k h =
     let v = value s m e in
-    let w = within_same v (grid k) (≈-sym (grid k) v h.1) h.0 in
+    let w = within_same v (grid k) (≈_sym (grid k) v h.1) h.0 in
     record { above = reach_low k w.least; below = reach_high k w.most }

@@ -10,7 +10,7 @@ use Rattle.whole.proofs.Fraction.{le_then_lt, lt_then_le}
 use Rattle.grid.specs.declared.Taken.{Taken}
 use Rattle.grid.specs.declared.Taken.TheVariants.{Grid, OffGrid, NotNumber, Beyond}
 use Rattle.grid.specs.Number.{value, grid, Off, Export, Worth, Answer}
-use Rattle.grid.proofs.Value.{≈-≼, ≈-sym}
+use Rattle.grid.proofs.Value.{≈-≼, ≈_sym}
 use Rattle.grid.proofs.Bits.{one_value}
 use Rattle.grid.proofs.Exact.{minus, export_has}
 
@@ -25,7 +25,7 @@ one_grid v j k h i = cancel_eq j k v.den v.some (h ∙ sym i)
 between : (v : Frac) (j : ℤ) (w : Float) → grid j ≈ v → Off v w → ⊥
 between v j w h o =
     clash o.k j
-    (cancel_lt o.k j (pos 16) (grid j).some (lt_then_le (grid o.k) v (grid j) o.above (≈-≼ v (grid j) (≈-sym (grid j) v h))))
+    (cancel_lt o.k j (pos 16) (grid j).some (lt_then_le (grid o.k) v (grid j) o.above (≈-≼ v (grid j) (≈_sym (grid j) v h))))
     (cancel_next j o.k (pos 16) (grid j).some (le_then_lt (grid j) v (grid (o.k +ℤ pos 1)) (≈-≼ (grid j) v h) o.next))
 
 one_off : (v : Frac) (w y : Float) → Off v w → Off v y → w ≡ y

@@ -73,33 +73,33 @@ level_back true a false b e = and_i (eqb a b) (eqb a 0) (eq→eqb (unsigned true
 pub ≈-≼ : (s t : Frac) → s ≈ t → s ≼ t
 ≈-≼ s t e = eq_le _ _ e
 
-pub ≈-sym : (s t : Frac) → s ≈ t → t ≈ s
-≈-sym s t e = sym e
+pub ≈_sym : (s t : Frac) → s ≈ t → t ≈ s
+≈_sym s t e = sym e
 
-pub ≈-of : (s t : Frac) → s ≼ t → t ≼ s → s ≈ t
-≈-of s t h k = antisym _ _ h k
+pub ≈_of : (s t : Frac) → s ≼ t → t ≼ s → s ≈ t
+≈_of s t h k = antisym _ _ h k
 
-pub ≈-trans : (s t u : Frac) → s ≈ t → t ≈ u → s ≈ u
-≈-trans s t u h k = ≈-of s u (trans s t u (≈-≼ s t h) (≈-≼ t u k)) (trans u t s (≈-≼ u t (≈-sym t u k)) (≈-≼ t s (≈-sym s t h)))
+pub ≈_trans : (s t u : Frac) → s ≈ t → t ≈ u → s ≈ u
+≈_trans s t u h k = ≈_of s u (trans s t u (≈-≼ s t h) (≈-≼ t u k)) (trans u t s (≈-≼ u t (≈_sym t u k)) (≈-≼ t s (≈_sym s t h)))
 
 module _ (x y u v : Frac) (p : x ≈ u) (q : y ≈ v) where
-  pub ≺-by : x ≺ y → u ≺ v
-  ≺-by h = le_then_lt u x v (≈-≼ u x (≈-sym x u p)) (lt_then_le x y v h (≈-≼ y v q))
+  pub ≺_by : x ≺ y → u ≺ v
+  ≺_by h = le_then_lt u x v (≈-≼ u x (≈_sym x u p)) (lt_then_le x y v h (≈-≼ y v q))
 
-  pub ≼-by : x ≼ y → u ≼ v
-  ≼-by h = trans u x v (≈-≼ u x (≈-sym x u p)) (trans x y v h (≈-≼ y v q))
+  pub ≼_by : x ≼ y → u ≼ v
+  ≼_by h = trans u x v (≈-≼ u x (≈_sym x u p)) (trans x y v h (≈-≼ y v q))
 
 -- ---- a value may be written in any way
 pub is_same : (x : Float) (u v : Frac) → u ≈ v → Is x u → Is x v
 is_same nan u v e i = i
 is_same (inf s) u v e i = i
-is_same (fin s m e) u v h i = ≈-trans (value s m e) u v i h
+is_same (fin s m e) u v h i = ≈_trans (value s m e) u v i h
 
 pub within_same : (u v : Frac) → u ≈ v → Within u → Within v
 within_same u v e w =
     record {
       least = trans (whole (negsuc 1023)) u v w.least (≈-≼ u v e);
-      most = trans v u (whole (pos 1024)) (≈-≼ v u (≈-sym u v e)) w.most;
+      most = trans v u (whole (pos 1024)) (≈-≼ v u (≈_sym u v e)) w.most;
     }
 
 -- ---- the comparison of two finite numbers is that of their values
@@ -110,7 +110,7 @@ module _ (u v : Frac) where
   pub lt_yes : (x y : Float) → Is x u → Is y v → lt x y ≡ true → u ≺ v
   unfolding lt
   lt_yes (fin s m e) (fin t n d) p q h =
-      ≺-by (value s m e) (value t n d) u v p q (rw (cross s m e d, cross t n d e) at (below_yes s (m * up e * down d) t (n * up d * down e) h))
+      ≺_by (value s m e) (value t n d) u v p q (rw (cross s m e d, cross t n d e) at (below_yes s (m * up e * down d) t (n * up d * down e) h))
   lt_yes (fin s m e) nan p q h = absurd q
   lt_yes (fin s m e) (inf t) p q h = absurd q
   lt_yes nan y p q h = absurd p
@@ -119,7 +119,7 @@ module _ (u v : Frac) where
   pub lt_no : (x y : Float) → Is x u → Is y v → lt x y ≡ false → v ≼ u
   unfolding lt
   lt_no (fin s m e) (fin t n d) p q h =
-      ≼-by (value t n d) (value s m e) v u q p (rw (cross s m e d, cross t n d e) at (below_no s (m * up e * down d) t (n * up d * down e) h))
+      ≼_by (value t n d) (value s m e) v u q p (rw (cross s m e d, cross t n d e) at (below_no s (m * up e * down d) t (n * up d * down e) h))
   lt_no (fin s m e) nan p q h = absurd q
   lt_no (fin s m e) (inf t) p q h = absurd q
   lt_no nan y p q h = absurd p
@@ -131,7 +131,7 @@ module _ (u v : Frac) where
       let x = value s m e in
       let y = value t n d in
       let w : x ≈ y = rw (cross s m e d, cross t n d e) at (level_yes s (m * up e * down d) t (n * up d * down e) (yes_of (eq (fin s m e) (fin t n d)) h)) in
-      ≈-of u v (≼-by x y u v p q (≈-≼ x y w)) (≼-by y x v u q p (≈-≼ y x (≈-sym x y w)))
+      ≈_of u v (≼_by x y u v p q (≈-≼ x y w)) (≼_by y x v u q p (≈-≼ y x (≈_sym x y w)))
   eq_yes (fin s m e) nan p q h = absurd q
   eq_yes (fin s m e) (inf t) p q h = absurd q
   eq_yes nan y p q h = absurd p
@@ -142,7 +142,7 @@ module _ (u v : Frac) where
   eq_no (fin s m e) (fin t n d) p q h i j =
       let x = value s m e in
       let y = value t n d in
-      let w : x ≈ y = ≈-of x y (≼-by u v x y (≈-sym x u p) (≈-sym y v q) i) (≼-by v u y x (≈-sym y v q) (≈-sym x u p) j) in
+      let w : x ≈ y = ≈_of x y (≼_by u v x y (≈_sym x u p) (≈_sym y v q) i) (≼_by v u y x (≈_sym y v q) (≈_sym x u p) j) in
       no_of (eq (fin s m e) (fin t n d)) h
       (level_back s (m * up e * down d) t (n * up d * down e) (cross s m e d ∙ w ∙ sym (cross t n d e)))
   eq_no (fin s m e) nan p q h i j = absurd q

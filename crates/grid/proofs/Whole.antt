@@ -18,7 +18,7 @@ use Rattle.whole.proofs.Order.{lt_le}
 use Rattle.whole.proofs.Range.{abs_by, abs_add, fits, field}
 use Rattle.whole.proofs.Fraction.{trans, le_then_lt, lt_then_le}
 use Rattle.grid.specs.Number.{signed, value, Is, Bounded, AtOrBelow}
-use Rattle.grid.proofs.Value.{minus_⊖, size_within, ≈-≼, ≈-sym, lt_yes, lt_no}
+use Rattle.grid.proofs.Value.{minus_⊖, size_within, ≈-≼, ≈_sym, lt_yes, lt_no}
 use Rattle.grid.proofs.Exact.{int_is}
 use Rattle.grid.proofs.Raised.{raise, lifted, Raised, raised}
 
@@ -28,7 +28,7 @@ sized s m e r =
     let v = value s m e in
     let w = r.worth in
     size_within 16383 s (m * up e) (down e)
-    (trans (whole (negsuc 16383)) w v r.least (≈-≼ w v (≈-sym v w r.is)))
+    (trans (whole (negsuc 16383)) w v r.least (≈-≼ w v (≈_sym v w r.is)))
     (trans v w (whole (pos 16384)) (≈-≼ v w r.is) r.most)
 
 -- ---- raised, and brought down again
@@ -105,7 +105,7 @@ near (fin s m e) r v i =
     record {
       small = n.small;
       low = lt_then_le (whole ((pos q -ℤ pos 12582912) -ℤ pos 1)) x v n.low (≈-≼ x v i);
-      high = le_then_lt v x (whole ((pos q -ℤ pos 12582912) +ℤ pos 1)) (≈-≼ v x (≈-sym x v i)) n.high;
+      high = le_then_lt v x (whole ((pos q -ℤ pos 12582912) +ℤ pos 1)) (≈-≼ v x (≈_sym x v i)) n.high;
     }
 
 -- ---- at or below: the number next to it, or the one before that

@@ -1,8 +1,10 @@
 // One exported number: a binary32 number, of which one unit is sixteen grid units.
+#![tactic(auto)]
+
 ghost use Rattle.grid.specs.Number.{Scaled, Bounded, Floored, Answer};
 
 // The answer of one number: its grid number; the grid value at or below it; not a number; out of reach.
-#[derive(Drop)]
+#[derive(Clone, Copy)]
 pub enum Taken {
     Grid(i32),
     OffGrid(f32),
