@@ -9,7 +9,7 @@ use lib.ListN.{length, get_or}
 use lib.Ieee.{Float}
 use Rattle.whole.specs.Front.{fronted}
 use Rattle.whole.proofs.Front.{stays_one}
-use Rattle.whole.proofs.Order.{ℕ-or}
+use Rattle.whole.proofs.Order.{ℕ_or}
 use Rattle.rules.specs.Reach.{Corners}
 use Rattle.rules.specs.Refusal as rules
 use Rattle.rules.specs.Refusal.{refuse}
@@ -48,7 +48,7 @@ same_grid : (x : Float) (j k : ℤ) → Answer x (Grid j) → Answer x (Grid k) 
 same_grid x j k h i = let e : Grid j ≡ Grid k = one_answer x (Grid j) (Grid k) h i in cc
 
 half : (j : ℕ) → (j ≡ 2 * (j / 2)) ⊎ (j ≡ 2 * (j / 2) + 1)
-half j = ⊎_elim (λ (h : j ≤ 2 * (j / 2)). inl (omega arith)) (λ (h : 2 * (j / 2) < j). inr (omega arith)) (ℕ-or j (2 * (j / 2)))
+half j = ⊎_elim (λ (h : j ≤ 2 * (j / 2)). inl (omega arith)) (λ (h : 2 * (j / 2) < j). inr (omega arith)) (ℕ_or j (2 * (j / 2)))
 
 module _ (cs : List Corner) (n : ℕ) (before l m : List ℤ) where
   abbrev Alike : ℕ → Type 0

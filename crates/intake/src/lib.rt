@@ -1,4 +1,6 @@
 // The intake of exported corners into a lent list; the crate `grid` answers one number.
+#![tactic(auto)]
+
 ghost use Rattle.std.specs.Prelude.{◌≤◌};
 ghost use Rattle.intake.specs.Footprint.{Put, Refuses, Paired, Gathered, Intake};
 
@@ -6,7 +8,7 @@ use grid::{Taken, take};
 use refusal::{Checked, Refusal};
 
 // A corner as exported.
-#[derive(Drop)]
+#[derive(Clone, Copy)]
 pub struct Corner {
     pub x: f32,
     pub y: f32,
@@ -24,7 +26,7 @@ fn refused(answer: Taken, corner: usize, axis: usize) -> Refusal
 }
 
 // A corner's grid numbers, or the refusal of the first number that has none.
-#[derive(Drop)]
+#[derive(Clone, Copy)]
 enum Numbers {
     Both(i32, i32),
     Refused(Refusal),
@@ -46,7 +48,7 @@ fn pair(corner: Corner, i: usize) -> Numbers
 }
 
 // What a look at every corner finds, and the grid numbers where all are good.
-#[derive(Drop)]
+#[derive(Clone, Copy)]
 struct Gathering {
     checked: Checked,
     numbers: [i32; 128],
