@@ -6,7 +6,7 @@ use mathlib.Core.List.{List}
 use Prim.Native.Nat.{ℕ, ◌≤◌, ◌<◌}
 use native.Mathlib.Omega.{arith}
 use native.Mathlib.Nat.{eq-or-lt_of_le}
-use Rattle.whole.proofs.Order.{ℕ-or}
+use Rattle.whole.proofs.Order.{ℕ_or}
 use Rattle.line.specs.declared.Corner.{Corner}
 use Rattle.line.specs.Calls.{part, Until, corner_or, within, Next}
 use Rattle.line.proofs.Told.{no}
@@ -23,7 +23,7 @@ module _ (p : ℕ → Bool) (s : List ℕ) (from : ℕ) where
       ⊎_elim
       (λ (h : a ≤ b). ⊎_elim (λ e. e) (λ l. absurd (not_before a b u v l)) (eq-or-lt_of_le h))
       (λ (h : b < a). absurd (not_before b a v u h))
-      (ℕ-or a b)
+      (ℕ_or a b)
 
 made : (a b c d e f : ℕ) → a ≡ d → b ≡ e → c ≡ f → ◌≡◌ {A = Corner} (record { from = a; to = b; vertex = c }) (record { from = d; to = e; vertex = f })
 made a b c d e f g h k = rw (g, h, k)

@@ -1,5 +1,7 @@
 // What a line of OBJ text says, and the corners of a face: specs/Text.antt says lines and words, specs/Number.antt numbers, specs/Line.antt what a line says, specs/Calls.antt the answers.
 // The vertices above a line are counted in 16 bits: a file of 65,536 bytes has 8,192 at most.
+#![tactic(auto)]
+
 ghost use Rattle.std.specs.Prelude.{◌≡◌, ◌≤◌, ◌<◌, length, drop};
 ghost use Rattle.line.specs.Text.{words};
 ghost use Rattle.line.specs.Line.{among, passed_words, vertex_line, face_line, line_of};
@@ -16,7 +18,7 @@ mod text;
 pub use decimal::{BEYOND, OFF};
 
 // Passed over; any other line; a vertex, its x and our y as a table has them; a face, and whether every index names a vertex above it.
-#[derive(Drop)]
+#[derive(Clone, Copy)]
 pub enum Said {
     Passed,
     Other,
@@ -25,7 +27,7 @@ pub enum Said {
 }
 
 // A word of a line, from here up to there, and the vertex that it names as a corner; as many as there are above where it names none, and 0xFFFF_FFFF where it is no corner.
-#[derive(Drop)]
+#[derive(Clone, Copy)]
 pub struct Corner {
     pub from: usize,
     pub to: usize,

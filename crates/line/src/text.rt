@@ -49,7 +49,7 @@ pub(crate) fn within(line: &[u8], at: usize) -> usize
 }
 
 // A word of a line: from here, up to there.
-#[derive(Drop)]
+#[derive(Clone, Copy)]
 pub(crate) struct Span {
     pub(crate) from: usize,
     pub(crate) to: usize,
