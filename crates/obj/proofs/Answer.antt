@@ -13,7 +13,6 @@ use Rattle.rules.specs.Refusal.{Passes, Fault, refuse}
 use Rattle.rules.specs.Good.{sized_check, piece_checks}
 use Rattle.rules.proofs.Checks.{passes_append, fault_left, fault_right}
 use Rattle.refusal.specs.Said.{said}
-use Rattle.refusal.specs.declared.Refusal.{Refusal}
 use Rattle.obj.specs.declared.Outline.{Outline}
 use Rattle.obj.specs.declared.Outline.TheVariants.{Corners, Refused}
 use Rattle.line.specs.Text.{lines}

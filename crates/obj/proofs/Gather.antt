@@ -10,7 +10,7 @@ use borrow.Author.Tests.{lt-ltb, le-ltb, ltb-true}
 use lib.Dec.{ltb}
 use lib.IntN.{ℤ, pos}
 use lib.ListN.{length, get_or, drop, length-set, length-map}
-use Rattle.whole.proofs.Order.{ℕ-or}
+use Rattle.whole.proofs.Order.{ℕ_or}
 use Rattle.whole.proofs.Flag.{and_yes, by_flag}
 use Rattle.rules.specs.Refusal.{Passes, in_turn}
 use Rattle.rules.proofs.Checks.{passes_append, passes_left, passes_right, in_turn_fault}
@@ -79,7 +79,7 @@ module _ (ps : List Point) (i : ℕ) (list : List ℤ) (x y : ℤ) (h : i < leng
       ⊎_elim
       (λ (q : 64 ≤ i). rw (le-ltb i 64 q) (part.numbers j (omega arith) l))
       (λ (q : i < 64). rw (lt-ltb i 64 q) (point_stored gridded ps i h list (omega arith) x y e f (λ k m. part.numbers k m (omega arith)) j g))
-      (ℕ-or 64 i)
+      (ℕ_or 64 i)
 
   part_more : x ≡ entry p.x → y ≡ entry p.y → Passes (point_checks ps i) → Part ps (i + 1) (kept x y i list)
   unfolding in_turn

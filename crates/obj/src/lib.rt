@@ -1,4 +1,7 @@
 // A footprint from Wavefront OBJ text. The crate `line` says lines, words, numbers and what a line says; specs/File.antt the footprint.
+
+#![tactic(auto)]
+
 ghost use Rattle.std.specs.Prelude.{◌≡◌, ◌≤◌, length};
 ghost use Rattle.good.specs.Numbers.{piece_of};
 ghost use Rattle.obj.specs.File.{ObjSays};
@@ -15,7 +18,7 @@ mod pass;
 mod text;
 
 // The corner count, or the refusal.
-#[derive(Drop)]
+#[derive(Clone, Copy)]
 pub enum Outline {
     Corners(usize),
     Refused(Refusal),

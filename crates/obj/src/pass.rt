@@ -7,7 +7,7 @@ use line::{Said, read_line};
 use refusal::Refusal;
 
 // What was seen of a file: how many vertices; whether a face, its line from here up to there, and how many vertices above it.
-#[derive(Drop)]
+#[derive(Clone, Copy)]
 pub(crate) struct Seen {
     pub(crate) vertices: usize,
     pub(crate) face: bool,
@@ -16,7 +16,7 @@ pub(crate) struct Seen {
     pub(crate) above: usize,
 }
 
-#[derive(Drop)]
+#[derive(Clone, Copy)]
 pub(crate) enum Stepped {
     Next(Seen),
     Refused(Refusal),
