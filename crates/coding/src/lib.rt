@@ -1,4 +1,6 @@
 // Each answer as one number, as C and Rust read it: specs/Coded.antt says which, specs/Macros.antt and Told.antt how it is read back.
+#![tactic(auto)]
+
 ghost use Rattle.std.specs.Prelude.{◌≡◌};
 ghost use Rattle.refusal.specs.Said.{said, said_in};
 ghost use Rattle.coding.specs.Coded.{refusal_code, checked_code, placed_code, verdict_code, header_code, counted_code, asked_code, outline_code};
@@ -10,6 +12,7 @@ use piece::{Coded, Placed, Verdict, coded};
 use refusal::{Checked, Refusal, row_of};
 use room::Counted;
 
+#[tactic(auto, unfolding(crate::specs::Coded::refusal_code))]
 fn packed(number: u64, block: u64, a: u64, b: u64) -> u64
     ensures { result ≡ refusal_code (record { number = number; block = block; a = a; b = b }) }
 {
