@@ -9,7 +9,7 @@ use lib.ListN.{length, take, drop, length-append, drop_of_length-le}
 use lib.Seq.{take_all, drop-drop, take_at, drop_at}
 use borrow.Author.Tests.{le-leb, lt-leb}
 use Rattle.whole.specs.Front.{fronted}
-use Rattle.whole.proofs.Order.{ℕ-or}
+use Rattle.whole.proofs.Order.{ℕ_or}
 use Rattle.rules.specs.Refusal.{refuse}
 use Rattle.rules.proofs.Checks.{definite_demand}
 use Rattle.refusal.specs.Said.{Writes}
@@ -40,7 +40,7 @@ put_listed l before after (Refused x) c w e =
     ⊎_elim (λ h. (λ i. out ((e ∙ ap refusal_code h.1) i) (w.1 i)) ∙ sym (short (length l) before 0 l (less h.0))) (λ h. absurd h.1) w.0
   where
     less : (length l ≤ length before → ⊥) → length before < length l
-    less h = ⊎_elim (λ (k : length l ≤ length before). absurd (h k)) (λ k. k) (ℕ-or (length l) (length before))
+    less h = ⊎_elim (λ (k : length l ≤ length before). absurd (h k)) (λ k. k) (ℕ_or (length l) (length before))
 
 -- a part that fits
 pub put_fits : (l before after : List ℤ) (r : Checked) → length l ≤ length before → Puts l before after r → after ≡ fronted l before

@@ -1,6 +1,6 @@
 -- An export as corners: an intake looks at no corner past its count, and an export's corners are its pairs. Assumes nothing.
 use mathlib.Core.Path.{◌≡◌, refl, sym, subst, ◌∙◌}
-use mathlib.Core.Logic.{⊎_elim}
+use mathlib.Core.Logic.{inl, inr, ⊎_elim}
 use mathlib.Core.List.{List, [], ◌∷◌, ◌++◌}
 use Prim.Native.Nat.{ℕ, zero, suc, ◌+◌, ◌*◌, ◌/◌, ◌%◌, ◌≤◌, ◌<◌}
 use native.Mathlib.Omega.{arith}
@@ -8,12 +8,13 @@ use lib.IntN.{ℤ, pos}
 use lib.ListN.{length, get_or, set}
 use lib.Seq.{get_or-set_same, get_or-set_other}
 use lib.Ieee.{Float, nan}
-use Rattle.whole.proofs.Order.{ℕ-or}
+use Rattle.whole.proofs.Order.{ℕ_or}
 use Rattle.rules.specs.Reach.{Corners}
 use Rattle.rules.specs.Refusal.{Check, demand, refuse, in_turn}
 use Rattle.refusal.specs.Said.{Finds}
 use Rattle.refusal.specs.declared.Checked.{Checked}
 use Rattle.refusal.specs.declared.Checked.TheVariants.{Good, Refused}
+use Rattle.refusal.specs.declared.Refusal.TheVariants as refusal
 use Rattle.refusal.proofs.Finds.{finds_after}
 use Rattle.intake.specs.declared.Corner.{Corner}
 use Rattle.grid.specs.declared.Taken.TheVariants.{Grid}
@@ -31,7 +32,7 @@ paired_more xs n cs c h e p i k =
     ⊎_elim
     (λ (g : n ≤ i). let q : i ≡ n = omega arith in rw (q, get_or-set_same cs n c (record { x = nan; y = nan }) h) e)
     (λ (g : i < n). get_or-set_other cs n i c (record { x = nan; y = nan }) (λ q. absurd (omega arith)) ∙ p i g)
-    (ℕ-or n i)
+    (ℕ_or n i)
 
 -- ---- the corners of an export are its pairs
 next : (i : ℕ) → 2 * suc i ≡ suc (suc (2 * i))
@@ -81,3 +82,12 @@ module _ (xs : List Float) (cs : List Corner) (before later : List ℤ) (r : Che
       let n = length xs / 2 in
       let g = intake_same cs (corners xs) n (λ i h. p i h ∙ sym (corners_at xs i (omega arith))) before r later f in
       record { finds = finds_after (demand (length xs % 2 ≡ 0) (refuse 5 0 0)) (intake_checks (corners xs) n (length before)) r even g.finds; list = g.list }
+
+-- ---- lists that no intake is asked of
+pub odd_refused : (xs : List Float) (before : List ℤ) → (length xs % 2 ≡ 0 → ⊥) → Exported xs before before (Refused refusal.Corners)
+unfolding export_checks
+odd_refused xs before h = record { finds = inl (h, refl); list = refl }
+
+pub many_refused : (xs : List Float) (before : List ℤ) → length xs % 2 ≡ 0 → 64 < length xs / 2 → Exported xs before before (Refused refusal.Corners)
+unfolding export_checks intake_checks
+many_refused xs before even h = record { finds = inr (even, inl ((λ (k : Corners (length xs / 2)). let m = k.most in absurd (omega (arith, m))), refl)); list = refl }

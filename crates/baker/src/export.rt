@@ -42,6 +42,7 @@ fn corners_of(numbers: &[f32], count: usize) -> [Corner; 64]
     corners
 }
 
+#[tactic(auto, using(crate::proofs::Pairs::odd_refused, crate::proofs::Pairs::many_refused))]
 fn export(numbers: &[f32], list: &mut [i32]) -> Checked
     ensures { Exported numbers.now list.old list.new result }
 {

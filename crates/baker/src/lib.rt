@@ -1,4 +1,6 @@
 // The calls for C and Rust, over numbers and slices. The crate `coding` says how an answer is one number, specs/Listed.antt what a lent list holds.
+#![tactic(auto)]
+
 mod blocks;
 mod export;
 mod files;
