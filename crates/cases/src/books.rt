@@ -3,6 +3,7 @@ use crate::{Q, Score, coded, more, run, slab};
 use book::Asked;
 use good::Run;
 use piece::NONE;
+use std::io;
 
 // Another piece than Q with the same sum of bytes: its upper edge leans.
 const LEANING: [i32; 8] = [0, 0, 64, 0, 64, 63, 0, 65];
@@ -26,28 +27,44 @@ fn ask(pages: &mut [u8], corners: &[i32]) -> u64 {
     answered(book::ask(pages, above, slab(0), corners))
 }
 
-fn asked(s: Score, name: &[u8], pages: &mut [u8], corners: &[i32], answer: u64) -> Score {
+fn asked(
+    rt: &impl Print,
+    s: Score,
+    name: &str,
+    pages: &mut [u8],
+    corners: &[i32],
+    answer: u64,
+) -> io::Result<Score> {
     let a = ask(pages, corners);
-    more(s, name, a == answer)
+    more(rt, s, name, a == answer)
 }
 
-fn shared(s: Score, pages: &mut [u8]) -> Score {
-    let s = asked(s, b"Q asked: worked out, clear", pages, &Q, CLEAR);
+fn shared(rt: &impl Print, s: Score, pages: &mut [u8]) -> io::Result<Score> {
+    let s = asked(rt, s, "Q asked: worked out, clear", pages, &Q, CLEAR)?;
     let s = asked(
+        rt,
         s,
-        b"Q asked again: remembered, clear",
+        "Q asked again: remembered, clear",
         pages,
         &Q,
         REMEMBERED + CLEAR,
-    );
+    )?;
     let s = asked(
+        rt,
         s,
-        b"the leaning piece, same slot and sum: worked out, 1024",
+        "the leaning piece, same slot and sum: worked out, 1024",
         pages,
         &LEANING,
         1024,
-    );
-    asked(s, b"Q asked in turn: worked out, clear", pages, &Q, CLEAR)
+    )?;
+    asked(
+        rt,
+        s,
+        "Q asked in turn: worked out, clear",
+        pages,
+        &Q,
+        CLEAR,
+    )
 }
 
 fn set(page: &mut [u8], at: usize, byte: u8) {
@@ -64,27 +81,28 @@ fn forge(page: &mut [u8]) {
     set(page, 286, 0);
 }
 
-fn forgery(s: Score, page: &mut [u8]) -> Score {
+fn forgery(rt: &impl Print, s: Score, page: &mut [u8]) -> io::Result<Score> {
     ask(page, &Q);
     forge(page);
     asked(
+        rt,
         s,
-        b"a forged sound entry: remembered as it says, 0",
+        "a forged sound entry: remembered as it says, 0",
         page,
         &Q,
         REMEMBERED,
     )
 }
 
-fn damage(s: Score, page: &mut [u8]) -> Score {
+fn damage(rt: &impl Print, s: Score, page: &mut [u8]) -> io::Result<Score> {
     set(page, 300, 1);
-    asked(s, b"a damaged entry: worked out, clear", page, &Q, CLEAR)
+    asked(rt, s, "a damaged entry: worked out, clear", page, &Q, CLEAR)
 }
 
-pub(crate) fn books(s: Score) -> Score {
+pub(crate) fn books(rt: &impl Print, s: Score) -> io::Result<Score> {
     let mut pages = [0u8; 2048];
-    let s = shared(s, &mut pages);
+    let s = shared(rt, s, &mut pages)?;
     let mut page = [0u8; 512];
-    let s = forgery(s, &mut page);
-    damage(s, &mut page)
+    let s = forgery(rt, s, &mut page)?;
+    damage(rt, s, &mut page)
 }

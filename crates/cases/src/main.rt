@@ -1,10 +1,12 @@
 // The examples that are run: each is asked of the public calls and compared with what it should be.
 // A line for each, and a count at the end; the file stdout beside src/ says what must be written.
+#![tactic(auto)]
+
 use good::{Run, Slab};
 use grid::Taken;
-use libc::STDOUT_FILENO;
 use piece::{Coded, NONE, Placed, Verdict};
 use refusal::{Checked, Refusal, row_of};
+use std::io;
 
 mod books;
 mod files;
@@ -24,24 +26,19 @@ const REACH: [i32; 6] = [-16384, -16384, 16384, -16384, 16384, 16384];
 const OVER: [i32; 6] = [-16384, -16384, 16384, -16384, 16385, 16384];
 
 // How many were right, of how many.
-#[derive(Drop)]
+#[derive(Clone, Copy)]
 struct Score {
     right: u32,
     all: u32,
 }
 
-fn more(s: Score, name: &[u8], right: bool) -> Score {
-    if right {
-        io::write_all(STDOUT_FILENO, b"right  ");
-    } else {
-        io::write_all(STDOUT_FILENO, b"WRONG  ");
-    }
-    io::write_all(STDOUT_FILENO, name);
-    io::write_all(STDOUT_FILENO, b"\n");
-    Score {
+fn more(rt: &impl Print, s: Score, name: &str, right: bool) -> io::Result<Score> {
+    let verdict = if right { "right" } else { "WRONG" };
+    println!(rt; "{verdict}  {name}")?;
+    Ok(Score {
         right: std::num::wrapping_add_u32(s.right, right as u32),
         all: std::num::wrapping_add_u32(s.all, 1),
-    }
+    })
 }
 
 fn run(x: i32, y: i32, z: i32, vx: i32, vy: i32, vz: i32, ticks: u32) -> Run {
@@ -102,31 +99,42 @@ fn where_is(p: Placed) -> u64 {
 }
 
 // The verdict of a run on corners that move so on x.
-fn ran(s: Score, name: &[u8], r: Run, vx: i32, corners: &[i32], code: u32) -> Score {
+fn ran(
+    rt: &impl Print,
+    s: Score,
+    name: &str,
+    r: Run,
+    vx: i32,
+    corners: &[i32],
+    code: u32,
+) -> io::Result<Score> {
     let v = piece::verdict(r, slab(vx), corners);
-    more(s, name, told(v) == code)
+    more(rt, s, name, told(v) == code)
 }
 
-fn slow_runs(s: Score) -> Score {
+fn slow_runs(rt: &impl Print, s: Score) -> io::Result<Score> {
     let s = ran(
+        rt,
         s,
-        b"run (-64,32,16) at (3,0,0) for 21 on Q: clear",
+        "run (-64,32,16) at (3,0,0) for 21 on Q: clear",
         run(-64, 32, 16, 3, 0, 0, 21),
         0,
         &Q,
         NONE,
-    );
+    )?;
     let s = ran(
+        rt,
         s,
-        b"run (-64,32,16) at (8,0,0) for 8 on Q at (-8,0,0): 1024",
+        "run (-64,32,16) at (8,0,0) for 8 on Q at (-8,0,0): 1024",
         run(-64, 32, 16, 8, 0, 0, 8),
         -8,
         &Q,
         1024,
-    );
+    )?;
     ran(
+        rt,
         s,
-        b"run (48,200,16) at (0,-8,0) for 20 on U: clear",
+        "run (48,200,16) at (0,-8,0) for 20 on U: clear",
         run(48, 200, 16, 0, -8, 0, 20),
         0,
         &U,
@@ -134,26 +142,30 @@ fn slow_runs(s: Score) -> Score {
     )
 }
 
-fn runs(s: Score) -> Score {
+fn runs(rt: &impl Print, s: Score) -> io::Result<Score> {
+    let s = slow_runs(rt, s)?;
     let s = ran(
-        slow_runs(s),
-        b"run (-64,32,16) at (7,0,0) for 10 on Q: 2340, not 2341",
+        rt,
+        s,
+        "run (-64,32,16) at (7,0,0) for 10 on Q: 2340, not 2341",
         run(-64, 32, 16, 7, 0, 0, 10),
         0,
         &Q,
         2340,
-    );
+    )?;
     let s = ran(
+        rt,
         s,
-        b"run (-100,32,16) at (255,0,0) for 1 on Q: 100",
+        "run (-100,32,16) at (255,0,0) for 1 on Q: 100",
         run(-100, 32, 16, 255, 0, 0, 1),
         0,
         &Q,
         100,
-    );
+    )?;
     ran(
+        rt,
         s,
-        b"run (32,32,40) at (0,0,-1) for 16 over Q, from above: 2048",
+        "run (32,32,40) at (0,0,-1) for 16 over Q, from above: 2048",
         run(32, 32, 40, 0, 0, -1, 16),
         0,
         &Q,
@@ -162,19 +174,20 @@ fn runs(s: Score) -> Score {
 }
 
 // Where a point lies in U.
-fn placed(s: Score, name: &[u8], x: i32, y: i32, answer: u64) -> Score {
+fn placed(rt: &impl Print, s: Score, name: &str, x: i32, y: i32, answer: u64) -> io::Result<Score> {
     let p = piece::place(x, y, &U);
-    more(s, name, where_is(p) == answer)
+    more(rt, s, name, where_is(p) == answer)
 }
 
-fn places(s: Score) -> Score {
-    let s = placed(s, b"(32,-16) in U: outside", 32, -16, 0);
-    let s = placed(s, b"(48,16) in U: inside", 48, 16, 1);
-    let s = placed(s, b"(48,32) in U: on", 48, 32, 2);
-    let s = placed(s, b"(16385,0) in U: 4 at 2", 16385, 0, three(4, 2, 0));
+fn places(rt: &impl Print, s: Score) -> io::Result<Score> {
+    let s = placed(rt, s, "(32,-16) in U: outside", 32, -16, 0)?;
+    let s = placed(rt, s, "(48,16) in U: inside", 48, 16, 1)?;
+    let s = placed(rt, s, "(48,32) in U: on", 48, 32, 2)?;
+    let s = placed(rt, s, "(16385,0) in U: 4 at 2", 16385, 0, three(4, 2, 0))?;
     placed(
+        rt,
         s,
-        b"(16384,-16385) in U: 4 at 4",
+        "(16384,-16385) in U: 4 at 4",
         16384,
         -16385,
         three(4, 4, 0),
@@ -182,52 +195,69 @@ fn places(s: Score) -> Score {
 }
 
 // What corners are refused with.
-fn held(s: Score, name: &[u8], corners: &[i32], n: usize, a: usize, b: usize) -> Score {
+fn held(
+    rt: &impl Print,
+    s: Score,
+    name: &str,
+    corners: &[i32],
+    n: usize,
+    a: usize,
+    b: usize,
+) -> io::Result<Score> {
     let c = good::check_piece(slab(0), corners);
-    more(s, name, refused(c) == three(n, a, b))
+    more(rt, s, name, refused(c) == three(n, a, b))
 }
 
-fn footprints(s: Score) -> Score {
-    let s = held(s, b"Q turned round: 9", &TURNED, 9, 0, 0);
-    let s = held(s, b"crossed: 8 at 0, 2", &CROSSED, 8, 0, 2);
-    let s = held(s, b"folded: 7 at 1", &FOLDED, 7, 1, 0);
-    let s = held(s, b"the ends of reach are taken", &REACH, 0, 0, 0);
-    held(s, b"one beyond: 4 at 20", &OVER, 4, 20, 0)
+fn footprints(rt: &impl Print, s: Score) -> io::Result<Score> {
+    let s = held(rt, s, "Q turned round: 9", &TURNED, 9, 0, 0)?;
+    let s = held(rt, s, "crossed: 8 at 0, 2", &CROSSED, 8, 0, 2)?;
+    let s = held(rt, s, "folded: 7 at 1", &FOLDED, 7, 1, 0)?;
+    let s = held(rt, s, "the ends of reach are taken", &REACH, 0, 0, 0)?;
+    held(rt, s, "one beyond: 4 at 20", &OVER, 4, 20, 0)
 }
 
 // So many numbers, of a thousand; the remainder only shows that there are so many.
-fn miscounted(s: Score, name: &[u8], n: usize) -> Score {
+fn miscounted(rt: &impl Print, s: Score, name: &str, n: usize) -> io::Result<Score> {
     let zeros = [0i32; 1000];
-    held(s, name, &zeros[..n % 1001], 5, 0, 0)
+    held(rt, s, name, &zeros[..n % 1001], 5, 0, 0)
 }
 
-fn lengths(s: Score) -> Score {
-    let s = miscounted(s, b"no number: 5", 0);
-    let s = miscounted(s, b"1 number: 5", 1);
-    let s = miscounted(s, b"5 numbers: 5", 5);
-    let s = miscounted(s, b"7 numbers: 5", 7);
-    let s = miscounted(s, b"129 numbers: 5", 129);
-    let s = miscounted(s, b"130 numbers: 5", 130);
-    miscounted(s, b"1000 numbers: 5", 1000)
+fn lengths(rt: &impl Print, s: Score) -> io::Result<Score> {
+    let s = miscounted(rt, s, "no number: 5", 0)?;
+    let s = miscounted(rt, s, "1 number: 5", 1)?;
+    let s = miscounted(rt, s, "5 numbers: 5", 5)?;
+    let s = miscounted(rt, s, "7 numbers: 5", 7)?;
+    let s = miscounted(rt, s, "129 numbers: 5", 129)?;
+    let s = miscounted(rt, s, "130 numbers: 5", 130)?;
+    miscounted(rt, s, "1000 numbers: 5", 1000)
 }
 
 // What an exported number is: a grid number, off grid over another, no number, or out of reach.
-fn taken(s: Score, name: &[u8], x: f32, kind: u32, k: i32, below: f32) -> Score {
+fn taken(
+    rt: &impl Print,
+    s: Score,
+    name: &str,
+    x: f32,
+    kind: u32,
+    k: i32,
+    below: f32,
+) -> io::Result<Score> {
     let right = match grid::take(x) {
         Taken::Grid(n) => (kind == 0) & (n == k),
         Taken::OffGrid(w) => (kind == 1) & (w == below),
         Taken::NotNumber => kind == 2,
         Taken::Beyond => kind == 3,
     };
-    more(s, name, right)
+    more(rt, s, name, right)
 }
 
-fn numbers(s: Score) -> Score {
-    let s = taken(s, b"1024 is taken as 16384", 1024.0, 0, 16384, 0.0);
-    let s = taken(s, b"1024.0625 is out of reach", 1024.0625, 3, 0, 0.0);
+fn numbers(rt: &impl Print, s: Score) -> io::Result<Score> {
+    let s = taken(rt, s, "1024 is taken as 16384", 1024.0, 0, 16384, 0.0)?;
+    let s = taken(rt, s, "1024.0625 is out of reach", 1024.0625, 3, 0, 0.0)?;
     taken(
+        rt,
         s,
-        b"-0.03125 is off grid over -0.0625",
+        "-0.03125 is off grid over -0.0625",
         -0.03125,
         1,
         0,
@@ -235,12 +265,14 @@ fn numbers(s: Score) -> Score {
     )
 }
 
-fn main() {
+fn main(rt: HostRuntime) -> io::Result<()> {
     let s = Score { right: 0, all: 0 };
-    let s = numbers(lengths(footprints(places(runs(s)))));
-    let s = files::files(books::books(s));
-    io::print_decimal(STDOUT_FILENO, s.right as u64);
-    io::write_all(STDOUT_FILENO, b" right of ");
-    io::print_decimal(STDOUT_FILENO, s.all as u64);
-    io::write_all(STDOUT_FILENO, b"\n");
+    let s = runs(&rt, s)?;
+    let s = places(&rt, s)?;
+    let s = footprints(&rt, s)?;
+    let s = lengths(&rt, s)?;
+    let s = numbers(&rt, s)?;
+    let s = books::books(&rt, s)?;
+    let s = files::files(&rt, s)?;
+    println!(rt; "{} right of {}", s.right, s.all)
 }
