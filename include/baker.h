@@ -1,7 +1,7 @@
 /*
  * The exact shadow baker: its calls for C and C++.
  *
- * The library is target/staticlib/libbaker.a (`rt staticlib baker` makes it), for x86-64 Linux. A program is
+ * The library is target/staticlib/libbaker.a (`tools/build` makes it), for x86-64 Linux. A program is
  * compiled and linked by
  *
  *     cc -Iinclude program.c target/staticlib/libbaker.a

@@ -6,7 +6,7 @@ use std::path::Path;
 use std::process::exit;
 
 const ABSENT: &str = "\
-baker: the environment variable BAKER_LIB names no library. Make it with `rt staticlib baker` at the root of
+baker: the environment variable BAKER_LIB names no library. Make it with `tools/build` at the root of
 the repository, and build with BAKER_LIB=target/staticlib/libbaker.a, a path from that root or an absolute one.";
 
 fn main() {

@@ -25,7 +25,7 @@ Status: 0 done; 1 the rules refuse the run or a piece; 2 not done.
 ";
 
 const NOT_LINKED: &str = "the proved library, which checks and lays out every scene, is not linked: \
-    make it with `rt staticlib baker`, and tools/scene links it";
+    make it with `tools/build`, and tools/scene links it";
 
 const REFUSED: u8 = 1;
 const NOT_DONE: u8 = 2;
