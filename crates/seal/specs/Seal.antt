@@ -1,5 +1,5 @@
 -- 512 bytes and their check: the block of its first bytes, and what any block is looked at for. `Finds` these checks has one answer by refusal/proofs/Unique
--- `finds-one`, since they are definite (proofs/OneFault). Assumes nothing.
+-- `finds_one`, since they are definite (proofs/OneFault). Assumes nothing.
 use Rattle.std.specs.Prelude.{◌≡◌, List, [], ◌∷◌, ◌++◌, ℕ, zero, suc, ◌+◌, ◌*◌, ◌-◌, ◌%◌, ◌≤◌, length, get_or, take, drop, replicate}
 use Rattle.rules.specs.Refusal.{refuse, Check, demand, each}
 

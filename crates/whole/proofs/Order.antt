@@ -152,7 +152,7 @@ nn_factor a b k h = not_lt _ _ (λ q. flip a b (pos_mul (pos 0 -ℤ a) b (lt_sub
     flip : (a b : ℤ) → pos 0 <ℤ ((pos 0 -ℤ a) *ℤ b) → pos 0 ≤ℤ (a *ℤ b) → ⊥
     flip = all2 _ λ a a' b b'. simp ring (omega arith)
 
--- the other signs, each from one of `nn-mul`, `pos-mul` at negated factors
+-- the other signs, each from one of `nn_mul`, `pos_mul` at negated factors
 pub pn_mul : (a b : ℤ) → a ≤ℤ pos 0 → pos 0 ≤ℤ b → (a *ℤ b) ≤ℤ pos 0
 pn_mul a b h k = flip a b (nn_mul (neg_ℤ a) b (turn_le a h) k)
   where

@@ -1,5 +1,5 @@
 -- An equation of polynomials over ℤ, of any degree, in one line: `f = vars3 _ λ ρ. simp poly (by_ring _ _ _ tt)`.
--- `vars3` puts `val ρ (var 0)`, .. for the variables, `simp poly` gathers each side into one `val ρ e`, and `by-ring` asks that the difference of the two has the empty normal form, which computes.
+-- `vars3` puts `val ρ (var 0)`, .. for the variables, `simp poly` gathers each side into one `val ρ e`, and `by_ring` asks that the difference of the two has the empty normal form, which computes.
 -- Assumes nothing.
 use mathlib.Core.Path.{◌≡◌, refl, sym, ap, ◌∙◌}
 use mathlib.Core.Bool.{Bool, true, false}

@@ -101,7 +101,7 @@ pub field : (w : Width) (z : ℤ) → mag z < 2 ^ hbits w → to_z w (of_z w z) 
 field w z h = to_z-of_z (record { sfits = h })
 
 -- ---- the range of an expression from those of its variables, in one step:
---     f = vars3 _ λ ρ h i j. simp (poly, num-val ρ) (in-range ρ (100 ∷ 100 ∷ 7 ∷ []) _ (h, (i, (j, tt))) w64 tt)
+--     f = vars3 _ λ ρ h i j. simp (poly, num_val ρ) (in_range ρ (100 ∷ 100 ∷ 7 ∷ []) _ (h, (i, (j, tt))) w64 tt)
 abbrev pub bound : List ℕ → Exp → ℕ
 bound β (var i) = get_or β i 0
 bound β (num n) = n
