@@ -89,5 +89,6 @@ part_number l first n zs a j h =
     }
 
 -- and as a local has it
-pub part_local : (l : List ℕ) (first n : ℕ) (zs : List ℤ) → NumbersOf (take n (drop (2 + 2 * first) l)) zs → (j : ℕ) → 2 * j + 1 < n → NumberAt l (first + j) (to_z w32 (of_z w32 (get_or zs j (pos 0))))
+pub part_local : (l : List ℕ) (first n : ℕ) (zs : List ℤ) → NumbersOf (take n (drop (2 + 2 * first) l)) zs →
+    (j : ℕ) → 2 * j + 1 < n → NumberAt l (first + j) (to_z w32 (of_z w32 (get_or zs j (pos 0))))
 part_local l first n zs a j h = let s = part_number l first n zs a j h in rw (to_z-of_z (half_fits (get_or zs j (pos 0)) s.half)) s

@@ -104,7 +104,9 @@ module _ (p a b : Pt) where
 some_on : (r : Ring) (p : Pt) (n : ℕ) → n ≤ r.size → on_some r p n ≡ true → OnRing r p
 unfolding on_some
 some_on r p zero h t = absurd (false_true t)
-some_on r p (suc n) h t = ⊎_elim (λ q. some_on r p n (omega arith) q) (λ q. record { edge = n; below = h; on = on_yes p (from r n) (to r n) q }) (or_yes (on_some r p n) (is_on p (from r n) (to r n)) t)
+some_on r p (suc n) h t =
+    ⊎_elim (λ q. some_on r p n (omega arith) q) (λ q. record { edge = n; below = h; on = on_yes p (from r n) (to r n) q })
+    (or_yes (on_some r p n) (is_on p (from r n) (to r n)) t)
 
 on_some_lem : (r : Ring) (p : Pt) (n k : ℕ) → k < n → On p (from r k) (to r k) → on_some r p n ≡ true
 unfolding on_some

@@ -39,6 +39,7 @@ fn refused(x: Refusal) -> PieceRead
 }
 
 // The piece in a block whose other bytes are right.
+#[tactic(auto, using(crate::proofs::PieceLaws::block_long, crate::proofs::PieceLaws::count_most))]
 fn piece_in(block: &[u8]) -> PieceRead
     requires { Passes (block_checks block.now ++ piece_bytes block.now) }
     ensures { PieceSays block.now result }

@@ -14,6 +14,7 @@ use refusal::{Checked, Refusal};
 use seal::SIZE;
 
 // The verdict on the numbers in a block whose other bytes are right; it checks the run, and then the piece.
+#[tactic(auto, using(crate::proofs::PieceLaws::block_long, crate::proofs::PieceLaws::count_most))]
 fn judge(run: Run, block: &[u8]) -> Verdict
     requires { Passes (block_checks block.now ++ piece_bytes block.now) }
     ensures { VerdictInSays (run_of run) block.now result }

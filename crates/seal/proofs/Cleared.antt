@@ -13,7 +13,9 @@ use Rattle.seal.proofs.Bytes.{padded}
 
 -- one more zero
 pub zero_more : (l : List ℕ) (from i : ℕ) → i < length l → Clean l from i → Clean (set l i 0) from (i + 1)
-zero_more l from i h f k r g = ⊎_elim (λ (q : i ≤ k). let e : k ≡ i = omega arith in rw e (get_or-set_same l i 0 0 h)) (λ (q : k < i). get_or-set_other l i k 0 0 (λ e. omega arith) ∙ f k r q) (ℕ_or i k)
+zero_more l from i h f k r g =
+    ⊎_elim (λ (q : i ≤ k). let e : k ≡ i = omega arith in rw e (get_or-set_same l i 0 0 h))
+    (λ (q : k < i). get_or-set_other l i k 0 0 (λ e. omega arith) ∙ f k r q) (ℕ_or i k)
 
 module _ (from : ℕ) (l : List ℕ) where
   pub cleared_length : length (cleared from l) ≡ length l

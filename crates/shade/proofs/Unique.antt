@@ -87,4 +87,5 @@ module _ (input : List ℕ) where
 
   pub one_text : (a b : List ℕ) → Answers input a → Answers input b → a ≡ b
   one_text a b f g =
-      stage_one (length_checks input) definite_length room_line _ (stage_one (run_block_checks (run_part input)) (definite_run_block (run_part input)) run_line Ran same_run) a b (staged a f) (staged b g)
+      let run = run_part input in let ran = stage_one (run_block_checks run) (definite_run_block run) run_line Ran same_run in
+      stage_one (length_checks input) definite_length room_line _ ran a b (staged a f) (staged b g)

@@ -11,7 +11,8 @@ use Rattle.whole.specs.Front.{Stays, Front, fronted}
 use Rattle.whole.proofs.Order.{ℕ_or}
 
 -- one more element is stored: those up to it are right
-pub stored : {A : Type 0} (z : A) (l m : List A) (i : ℕ) (a : A) → i < length l → ((k : ℕ) → k < i → get_or l k z ≡ get_or m k z) → a ≡ get_or m i z → (k : ℕ) → k < i + 1 → get_or (set l i a) k z ≡ get_or m k z
+pub stored : {A : Type 0} (z : A) (l m : List A) (i : ℕ) (a : A) → i < length l → ((k : ℕ) → k < i → get_or l k z ≡ get_or m k z) →
+    a ≡ get_or m i z → (k : ℕ) → k < i + 1 → get_or (set l i a) k z ≡ get_or m k z
 stored z l m i a h before e = below_more (λ k. get_or (set l i a) k z ≡ get_or m k z) i (λ k g. get_or-set_other l i k a z (λ q. omega arith) ∙ before k g) (get_or-set_same l i a z h ∙ e)
 
 -- one list stays so, where its first elements are known

@@ -4,20 +4,8 @@ use lib.Seq.{length-take-le}
 use Rattle.refusal.specs.declared.Checked.TheVariants.{Good}
 use Rattle.good.specs.Numbers.{piece_of}
 use Rattle.seal.specs.Seal.{byte}
-use Rattle.piece_block.proofs.PieceLaws.{block_long, count_most, inside_fault, piece_in, piece_holds, says_refused}
+use Rattle.piece_block.proofs.PieceLaws.{count_most, inside_fault, piece_in, piece_holds, says_refused}
 use Rattle.piece_block.proofs.pieces.piece_in.Goals as goal
-
-pub bounds-block-1 : goal.bounds-block-1
-bounds-block-1 c = omega (arith, block_long c.args.block.now c.requires)
-
-pub slab_at-slab-requires : goal.slab_at-slab-requires
-slab_at-slab-requires c = block_long c.args.block.now c.requires
-
-pub corners_at-corners-requires : goal.corners_at-corners-requires
-corners_at-corners-requires c = let l = c.args.block.now in (omega (arith, count_most l c.requires), block_long l c.requires)
-
-pub slice_bounds-corners-end : goal.slice_bounds-corners-end
-slice_bounds-corners-end c = omega (arith, count_most c.args.block.now c.requires, c.corners_at-corners.ensures.all)
 
 pub slice_bounds-check_piece-end : goal.slice_bounds-check_piece-end
 slice_bounds-check_piece-end c = sym (length-take-le _ _ (omega (arith, count_most c.args.block.now c.requires, c.corners_at-corners.ensures.all)))
