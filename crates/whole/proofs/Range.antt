@@ -96,7 +96,7 @@ module _ {w : Width} {x y : ℤ} (fx : SFits w x) (fy : SFits w y) where
   pub lt_no : lt_z (to_z w (of_z w x)) (to_z w (of_z w y)) ≡ false → y ≤ℤ x
   lt_no e = lt_false x y (rw (to_z-of_z fx, to_z-of_z fy) at e)
 
--- any signed value, read back: `omega arith` finds its range in what a need is handed, be it a parameter, a call's result, an element or a struct's field
+-- any signed value, read back: `omega arith` finds its range in what a goal is handed, be it a parameter, a call's result, an element or a struct's field
 pub field : (w : Width) (z : ℤ) → mag z < 2 ^ hbits w → to_z w (of_z w z) ≡ z
 field w z h = to_z-of_z (record { sfits = h })
 
