@@ -53,9 +53,12 @@ unfolding piece_checks sized_check band_check
 piece_refused b l r z s h = inr (z, inl (r, first_found (band_seeks b [] l r s) h, refl))
 
 -- the point's numbers as its caller reads them back
-pub place_seeks : (x y : ℤ) (r : ℕ) → SFits w32 x → SFits w32 y → Seeks (λ j. PointNumber (pt (to_z w32 (of_z w32 x)) (to_z w32 (of_z w32 y))) j → ⊥) 2 r → Seeks (λ j. PointNumber (pt x y) j → ⊥) 2 r
+pub place_seeks : (x y : ℤ) (r : ℕ) → SFits w32 x → SFits w32 y
+    → Seeks (λ j. PointNumber (pt (to_z w32 (of_z w32 x)) (to_z w32 (of_z w32 y))) j → ⊥) 2 r → Seeks (λ j. PointNumber (pt x y) j → ⊥) 2 r
 place_seeks x y r f g s = rw (to_z-of_z f, to_z-of_z g) at s
 
-pub place_refused : (x y : ℤ) (l : List ℤ) (r : ℕ) → SFits w32 x → SFits w32 y → Seeks (λ j. PointNumber (pt (to_z w32 (of_z w32 x)) (to_z w32 (of_z w32 y))) j → ⊥) 2 r → r < 2 → Fault (place_checks (pt x y) l) (said (Reach (2 + 2 * r)))
+pub place_refused : (x y : ℤ) (l : List ℤ) (r : ℕ) → SFits w32 x → SFits w32 y
+    → Seeks (λ j. PointNumber (pt (to_z w32 (of_z w32 x)) (to_z w32 (of_z w32 y))) j → ⊥) 2 r → r < 2
+    → Fault (place_checks (pt x y) l) (said (Reach (2 + 2 * r)))
 unfolding place_checks
 place_refused x y l r f g s h = inl (r, first_found (place_seeks x y r f g s) h, refl)

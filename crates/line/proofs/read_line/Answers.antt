@@ -53,26 +53,24 @@ module _ (line : List ℕ) (from to : ℕ) (w : Word line 0 from to) (some : fro
 
 pub returns-then-spelled : goal.returns-then-spelled
 returns-then-spelled c =
-    let line = c.args.line.now in
     let w = c.word-first in
-    rw (is_v line w.result.from w.result.to w.ensures c.if-from-line.false c.if-line-eq35.false _ c.spelled.ensures c.if-spelled.true, vertex_above c.args.above (words (drop w.result.to line)))
-    c.vertex.ensures
+    let told = is_v _ _ _ w.ensures c.if-from-line.false c.if-line-eq35.false _ c.spelled.ensures c.if-spelled.true in
+    rw (told, vertex_above c.args.above (words (drop w.result.to c.args.line.now))) c.vertex.ensures
 
 pub returns-then-spelled-2 : goal.returns-then-spelled-2
 returns-then-spelled-2 c =
-    let line = c.args.line.now in
-    let w = c.word-first in
-    rw (is_f line w.result.from w.result.to w.ensures c.if-from-line.false c.if-line-eq35.false _ _ c.spelled.ensures c.if-spelled.false c.spelled-2.ensures c.if-spelled-2.true)
-    c.face.ensures
+    let v = c.spelled.ensures in let f = c.spelled-2.ensures in
+    let told = is_f _ _ _ c.word-first.ensures c.if-from-line.false c.if-line-eq35.false _ _ v c.if-spelled.false f c.if-spelled-2.true in
+    rw told c.face.ensures
 
 pub returns-then-is_passed : goal.returns-then-is_passed
 returns-then-is_passed c =
-    let line = c.args.line.now in
-    let w = c.word-first in
-    rw (not_f line w.result.from w.result.to w.ensures c.if-from-line.false c.if-line-eq35.false _ _ c.spelled.ensures c.if-spelled.false c.spelled-2.ensures c.if-spelled-2.false, sym c.is_passed.ensures ∙ c.if-is_passed.true)
+    let v = c.spelled.ensures in let f = c.spelled-2.ensures in
+    let told = not_f _ _ _ c.word-first.ensures c.if-from-line.false c.if-line-eq35.false _ _ v c.if-spelled.false f c.if-spelled-2.false in
+    rw (told, sym c.is_passed.ensures ∙ c.if-is_passed.true)
 
 pub returns : goal.returns
 returns c =
-    let line = c.args.line.now in
-    let w = c.word-first in
-    rw (not_f line w.result.from w.result.to w.ensures c.if-from-line.false c.if-line-eq35.false _ _ c.spelled.ensures c.if-spelled.false c.spelled-2.ensures c.if-spelled-2.false, sym c.is_passed.ensures ∙ c.if-is_passed.false)
+    let v = c.spelled.ensures in let f = c.spelled-2.ensures in
+    let told = not_f _ _ _ c.word-first.ensures c.if-from-line.false c.if-line-eq35.false _ _ v c.if-spelled.false f c.if-spelled-2.false in
+    rw (told, sym c.is_passed.ensures ∙ c.if-is_passed.false)

@@ -44,19 +44,18 @@ module _ (w : List ℕ) (above at n : ℕ) (u : Until (either 47 47) w 0 at) (e 
         (ap (λ l. is_after (parts slash l)) (sym (suffix (at + 1) w)) ∙ (sym g ∙ h))
 
 pub returns-then-n : goal.returns-then-n
-returns-then-n c = not_whole c.args.w.now c.args.above c.until-at.result c.whole-n.result c.until-at.ensures c.whole-n.ensures c.if-n.true
+returns-then-n c = not_whole _ c.args.above _ _ c.until-at.ensures c.whole-n.ensures c.if-n.true
 
 pub returns-then-at-w : goal.returns-then-at-w
-returns-then-at-w c =
-    nothing_after c.args.w.now c.args.above c.until-at.result c.whole-n.result c.until-at.ensures c.whole-n.ensures c.if-n.false c.if-at-w.true
-    c.named.result c.named.ensures
+returns-then-at-w c = nothing_after _ _ _ _ c.until-at.ensures c.whole-n.ensures c.if-n.false c.if-at-w.true _ c.named.ensures
 
 pub returns-then-is_after : goal.returns-then-is_after
 returns-then-is_after c =
-    let r = c.named-then-is_after in
-    named c.args.w.now c.args.above c.until-at.result c.whole-n.result c.until-at.ensures c.whole-n.ensures c.if-n.false r.result r.ensures
-    ∙ sym (after c.args.w.now c.args.above c.until-at.result c.whole-n.result c.until-at.ensures c.whole-n.ensures c.if-n.false c.if-at-w.false c.is_after.result c.is_after.ensures true c.if-is_after.true)
+    let u = c.until-at.ensures in let e = c.whole-n.ensures in let some = c.if-n.false in
+    let told = named _ _ _ _ u e some _ c.named-then-is_after.ensures in
+    told ∙ sym (after _ _ _ _ u e some c.if-at-w.false _ c.is_after.ensures true c.if-is_after.true)
 
 pub returns-else-is_after : goal.returns-else-is_after
 returns-else-is_after c =
-    sym (after c.args.w.now c.args.above c.until-at.result c.whole-n.result c.until-at.ensures c.whole-n.ensures c.if-n.false c.if-at-w.false c.is_after.result c.is_after.ensures false c.if-is_after.false)
+    let u = c.until-at.ensures in let e = c.whole-n.ensures in let some = c.if-n.false in
+    sym (after _ _ _ _ u e some c.if-at-w.false _ c.is_after.ensures false c.if-is_after.false)
