@@ -11,43 +11,75 @@ use Rattle.whole.proofs.Range.{read}
 use Rattle.rules.specs.Reach.{Run, Piece}
 use Rattle.decide.specs.Span.{Span, ticks, clip}
 use Rattle.decide.specs.Touch.{band_span}
+use Rattle.good.specs.Numbers.{run_of, piece_of}
+use Rattle.std.specs.Prelude.{[]}
 use Rattle.piece.specs.Moving.{Small, Slope}
-use Rattle.piece.specs.Touch.{Level}
 use Rattle.piece.proofs.Moving.{small_clip, turned}
 use Rattle.piece.proofs.Touch.{climb, over_bottom, under_top, small_ticks, slope_of}
 use Rattle.piece.proofs.motion.band_span.Goals as goal
+use Rattle.piece.proofs.motion.band_span.Goals.{After-gap-2}
 
 abbrev word : ℤ → ℤ
 word z = to_z w64 (of_z w64 z)
 
--- the run's length, the rise, the height above the bottom and that under the top, as a call reads them
-module _ (r : Run) (k : Piece) (h : Level r k) (n : ℤ) (o : n ≡ pos r.ticks) (i u v : ℤ) (e : word i ≡ climb r k) (f : word u ≡ r.start.z -ℤ k.bottom) (g : word v ≡ k.top -ℤ r.start.z) where
-  steep : nat_abs (climb r k) ≤ 8589934592
-  steep = let l = (over_bottom r k h).slope in omega (arith, l)
+-- what is known when the three differences are taken
+module _ (c : After-gap-2) where
+  abbrev r : Run
+  r = run_of c.args.run
 
-  back : word (pos 0 -ℤ word i) ≡ neg_ℤ (climb r k)
+  abbrev k : Piece
+  k = piece_of c.args.slab []
+
+  -- the run's length, the rise, the height above the bottom and that under the top, as a call reads them
+  abbrev n : ℤ
+  n = word (pos r.ticks)
+
+  abbrev i : ℤ
+  i = word c.gap-w.result
+
+  abbrev u : ℤ
+  u = word c.gap.result
+
+  abbrev v : ℤ
+  v = word c.gap-2.result
+
+  o : n ≡ pos r.ticks
+  o = to_z_pos w64 (omega (arith, c.requires.ticks))
+
+  e : i ≡ climb r k
+  e = read w64 c.gap-w.type_inv (c.gap-w.ensures ∙ search rules)
+
+  f : u ≡ r.start.z -ℤ k.bottom
+  f = read w64 c.gap.type_inv (c.gap.ensures ∙ search rules)
+
+  g : v ≡ k.top -ℤ r.start.z
+  g = read w64 c.gap-2.type_inv (c.gap-2.ensures ∙ search rules)
+
+  bottom : Slope (r.start.z -ℤ k.bottom) (climb r k)
+  bottom = slope_of _ _ (over_bottom r k c.requires)
+
+  steep : nat_abs (climb r k) ≤ 8589934592
+  steep = omega (arith, bottom.slope)
+
+  back : word (pos 0 -ℤ i) ≡ neg_ℤ (climb r k)
   back = rw e (turned (climb r k) steep)
 
   -- what the first clip gives
-  first : (t : Span) → t ≡ clip (ticks n) (word u) (word i) → t ≡ clip (ticks (pos r.ticks)) (r.start.z -ℤ k.bottom) (climb r k)
+  first : (t : Span) → t ≡ clip (ticks n) u i → t ≡ clip (ticks (pos r.ticks)) (r.start.z -ℤ k.bottom) (climb r k)
   first t q = rw (o, f, e) at q
 
-  again : (t : Span) → t ≡ clip (ticks n) (word u) (word i) → Small t × Slope (word v) (word (pos 0 -ℤ word i))
+  again : (t : Span) → t ≡ clip (ticks n) u i → Small t × Slope v (word (pos 0 -ℤ i))
   again t q = (
-    subst Small (sym (first t q)) (small_clip _ _ _ (small_ticks r.ticks h.ticks) (slope_of _ _ (over_bottom r k h))),
-    rw (g, back) (slope_of _ _ (under_top r k h)),
+    subst Small (sym (first t q)) (small_clip _ _ _ (small_ticks r.ticks c.requires.ticks) bottom),
+    rw (g, back) (slope_of _ _ (under_top r k c.requires)),
   )
 
-  second : (t s : Span) → t ≡ clip (ticks n) (word u) (word i) → s ≡ clip t (word v) (word (pos 0 -ℤ word i)) → s ≡ band_span r k
+  second : (t s : Span) → t ≡ clip (ticks n) u i → s ≡ clip t v (word (pos 0 -ℤ i)) → s ≡ band_span r k
   unfolding band_span
   second t s q l = rw (g, back) at l ∙ ap (λ (t : Span). clip t (k.top -ℤ r.start.z) (neg_ℤ (climb r k))) (first t q)
 
 pub clip-requires : goal.clip-requires
-clip-requires c =
-    again _ _ c.requires _ (to_z_pos w64 (omega (arith, c.requires.ticks))) c.gap-w.result c.gap.result c.gap-2.result (read w64 c.gap-w.type_inv (c.gap-w.ensures ∙ search rules)) (read w64 c.gap.type_inv (c.gap.ensures ∙ search rules))
-    (read w64 c.gap-2.type_inv (c.gap-2.ensures ∙ search rules)) _ c.clip-t.ensures
+clip-requires c = again (goal.at.clip-requires c).After-gap-2 _ c.clip-t.ensures
 
 pub returns : goal.returns
-returns c =
-    second _ _ c.requires _ (to_z_pos w64 (omega (arith, c.requires.ticks))) c.gap-w.result c.gap.result c.gap-2.result (read w64 c.gap-w.type_inv (c.gap-w.ensures ∙ search rules)) (read w64 c.gap.type_inv (c.gap.ensures ∙ search rules))
-    (read w64 c.gap-2.type_inv (c.gap-2.ensures ∙ search rules)) _ _ c.clip-t.ensures c.clip.ensures
+returns c = second (goal.at.returns c).After-gap-2 _ _ c.clip-t.ensures c.clip.ensures

@@ -8,66 +8,109 @@ use mir.Val.{SFits, to_z, of_z}
 use Rattle.whole.proofs.Range.{read}
 use Rattle.decide.specs.Span.{Span, clip}
 use Rattle.decide.specs.Touch.{least, most, within}
-use Rattle.piece.specs.Moving.{Small, Slope}
-use Rattle.piece.specs.Touch.{Flat}
+use Rattle.piece.specs.Moving.{span_of, Small, Slope}
 use Rattle.piece.proofs.Moving.{small_clip, turned}
 use Rattle.piece.proofs.Touch.{low, high, low_fits, high_fits}
 use Rattle.piece.proofs.motion.within.Goals as goal
+use Rattle.piece.proofs.motion.within.Goals.{After-least, After-most}
 
 abbrev word : ℤ → ℤ
 word z = to_z w64 (of_z w64 z)
-
--- p and w, the least and the most of the two, as a call reads them
-module _ (p w : ℤ) (s : Span) (a b : ℤ) (h : Flat p w s a b) (i j : ℤ) (e : word i ≡ p) (f : word j ≡ w) (u v : ℤ) (k : word u ≡ least a b) (l : word v ≡ most a b) where
-  from : word (word i -ℤ word u) ≡ p -ℤ least a b
-  from = rw (e, k) (to_z-of_z (low_fits _ _ _ _ _ h))
-
-  to : word (word v -ℤ word i) ≡ most a b -ℤ p
-  to = rw (e, l) (to_z-of_z (high_fits _ _ _ _ _ h))
-
-  back : word (pos 0 -ℤ word j) ≡ neg_ℤ w
-  back = rw f (turned w (omega (arith, h.speed)))
-
-  first : (t : Span) → t ≡ clip s (word (word i -ℤ word u)) (word j) → t ≡ clip s (p -ℤ least a b) w
-  first t q = rw (from, f) at q
-
-  small : (t : Span) → t ≡ clip s (word (word i -ℤ word u)) (word j) → Small t
-  small t q = subst Small (sym (first t q)) (small_clip s _ _ h.span (low _ _ _ _ _ h))
-
-  slope : Slope (word (word v -ℤ word i)) (word (pos 0 -ℤ word j))
-  slope = rw (to, back) (high _ _ _ _ _ h)
-
-  second : (t r : Span) → t ≡ clip s (word (word i -ℤ word u)) (word j) → r ≡ clip t (word (word v -ℤ word i)) (word (pos 0 -ℤ word j)) → r ≡ within p w s a b
-  unfolding within
-  second t r q n = rw (to, back) at n ∙ ap (λ (t : Span). clip t (most a b -ℤ p) (neg_ℤ w)) (first t q)
 
 -- the least or the most, read back
 ends : (f : ℤ → ℤ → ℤ) (a b : ℤ) → SFits w64 a → SFits w64 b → f (word a) (word b) ≡ f a b
 ends f a b h k = rw (to_z-of_z h, to_z-of_z k)
 
+-- what is known when the least of the two is taken
+module _ (c : After-least) where
+  abbrev p : ℤ
+  p = c.args.p
+
+  abbrev w : ℤ
+  w = c.args.w
+
+  abbrev s : Span
+  s = span_of c.args.s
+
+  abbrev a : ℤ
+  a = c.args.a
+
+  abbrev b : ℤ
+  b = c.args.b
+
+  -- p, w and the least, as a call reads them
+  abbrev i : ℤ
+  i = word p
+
+  abbrev j : ℤ
+  j = word w
+
+  abbrev u : ℤ
+  u = word c.least.result
+
+  e : i ≡ p
+  e = to_z-of_z c.ranges.p
+
+  f : j ≡ w
+  f = to_z-of_z c.ranges.w
+
+  k : u ≡ least a b
+  k = read w64 c.least.type_inv (c.least.ensures ∙ ends least _ _ c.ranges.a c.ranges.b)
+
+  from_fits : SFits w64 (i -ℤ u)
+  from_fits = rw (e, k) (low_fits _ _ _ _ _ c.requires)
+
+  from : word (i -ℤ u) ≡ p -ℤ least a b
+  from = rw (e, k) (to_z-of_z (low_fits _ _ _ _ _ c.requires))
+
+  asked : Small s × Slope (word (i -ℤ u)) j
+  asked = (c.requires.span, rw (from, f) (low _ _ _ _ _ c.requires))
+
+  -- what the first clip gives
+  first : (t : Span) → t ≡ clip s (word (i -ℤ u)) j → t ≡ clip s (p -ℤ least a b) w
+  first t q = rw (from, f) at q
+
+  small : (t : Span) → t ≡ clip s (word (i -ℤ u)) j → Small t
+  small t q = subst Small (sym (first t q)) (small_clip s _ _ c.requires.span (low _ _ _ _ _ c.requires))
+
+  back : word (pos 0 -ℤ j) ≡ neg_ℤ w
+  back = rw f (turned w (omega (arith, c.requires.speed)))
+
+  -- the most, as a call reads it
+  module _ (v : ℤ) (l : word v ≡ most a b) where
+    to_fits : SFits w64 (word v -ℤ i)
+    to_fits = rw (e, l) (high_fits _ _ _ _ _ c.requires)
+
+    to : word (word v -ℤ i) ≡ most a b -ℤ p
+    to = rw (e, l) (to_z-of_z (high_fits _ _ _ _ _ c.requires))
+
+    slope : Slope (word (word v -ℤ i)) (word (pos 0 -ℤ j))
+    slope = rw (to, back) (high _ _ _ _ _ c.requires)
+
+    second : (t r : Span) → t ≡ clip s (word (i -ℤ u)) j → r ≡ clip t (word (word v -ℤ i)) (word (pos 0 -ℤ j)) → r ≡ within p w s a b
+    unfolding within
+    second t r q n = rw (to, back) at n ∙ ap (λ (t : Span). clip t (most a b -ℤ p) (neg_ℤ w)) (first t q)
+
+top : (c : After-most) → word c.most.result ≡ most c.args.a c.args.b
+top c = read w64 c.most.type_inv (c.most.ensures ∙ ends most _ _ c.ranges.a c.ranges.b)
+
 pub overflow_sub-p : goal.overflow_sub-p
-overflow_sub-p c =
-    let k = read w64 c.least.type_inv (c.least.ensures ∙ ends least _ _ c.ranges.a c.ranges.b) in
-    rw (to_z-of_z c.ranges.p, k) (low_fits _ _ _ _ _ c.requires)
+overflow_sub-p c = from_fits (goal.at.overflow_sub-p c).After-least
 
 pub clip-requires : goal.clip-requires
-clip-requires c =
-    let k = read w64 c.least.type_inv (c.least.ensures ∙ ends least _ _ c.ranges.a c.ranges.b) in
-    (c.requires.span, rw (to_z-of_z c.ranges.p, to_z-of_z c.ranges.w, k, to_z-of_z (low_fits _ _ _ _ _ c.requires)) (low _ _ _ _ _ c.requires))
+clip-requires c = asked (goal.at.clip-requires c).After-least
 
 pub overflow_sub-most : goal.overflow_sub-most
 overflow_sub-most c =
-    let l = read w64 c.most.type_inv (c.most.ensures ∙ ends most _ _ c.ranges.a c.ranges.b) in
-    rw (to_z-of_z c.ranges.p, l) (high_fits _ _ _ _ _ c.requires)
+    let t = goal.at.overflow_sub-most c in
+    to_fits t.After-least c.most.result (top t.After-most)
 
 pub clip-requires-2 : goal.clip-requires-2
 clip-requires-2 c =
-    let k = read w64 c.least.type_inv (c.least.ensures ∙ ends least _ _ c.ranges.a c.ranges.b) in
-    let l = read w64 c.most.type_inv (c.most.ensures ∙ ends most _ _ c.ranges.a c.ranges.b) in
-    (small _ _ _ _ _ c.requires c.args.p c.args.w (to_z-of_z c.ranges.p) (to_z-of_z c.ranges.w) c.least.result c.most.result k l _ c.clip.ensures, slope _ _ _ _ _ c.requires c.args.p c.args.w (to_z-of_z c.ranges.p) (to_z-of_z c.ranges.w) c.least.result c.most.result k l)
+    let t = goal.at.clip-requires-2 c in
+    (small t.After-least _ c.clip.ensures, slope t.After-least c.most.result (top t.After-most))
 
 pub returns : goal.returns
 returns c =
-    let k = read w64 c.least.type_inv (c.least.ensures ∙ ends least _ _ c.ranges.a c.ranges.b) in
-    let l = read w64 c.most.type_inv (c.most.ensures ∙ ends most _ _ c.ranges.a c.ranges.b) in
-    second _ _ _ _ _ c.requires c.args.p c.args.w (to_z-of_z c.ranges.p) (to_z-of_z c.ranges.w) c.least.result c.most.result k l _ _ c.clip.ensures c.clip-2.ensures
+    let t = goal.at.returns c in
+    second t.After-least c.most.result (top t.After-most) _ _ c.clip.ensures c.clip-2.ensures
