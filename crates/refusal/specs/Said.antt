@@ -1,13 +1,10 @@
 -- What each case of the enum says: the number and the places of the table. Assumes nothing.
-use Rattle.std.specs.Prelude.{◌≡◌, ◌⊎◌, List, ℕ}
-use Rattle.std.proofs.Common.{inl, inr}
+use Rattle.std.specs.Prelude.{◌≡◌, List, ℕ, Result, Ok, Err}
 use Rattle.rules.specs.Refusal as rules
 use Rattle.rules.specs.Refusal.{refuse, in_block, Check as Test, Passes, Fault}
 use Rattle.refusal.specs.declared.Refusal.{Refusal}
 use Rattle.refusal.specs.declared.Refusal.TheVariants.{Length, Check, Kind, Reach, Corners, Same, Fold, Meet, Clockwise, Short, NotNumber, Beyond, OffGrid, Line, Index, Face}
 use Rattle.refusal.specs.declared.Row.{Row}
-use Rattle.refusal.specs.declared.Checked.{Checked}
-use Rattle.refusal.specs.declared.Checked.TheVariants.{Good, Refused}
 
 -- the row of the table
 abbrev pub row : Refusal → rules.Refusal
@@ -37,19 +34,19 @@ said x = said_in x 0
 
 -- r is the row of x
 abbrev pub RowOf : Refusal → Row → Type 0
-RowOf x r = (r.0 ≡ (said x).number) × (r.1 ≡ (said x).a) × (r.2 ≡ (said x).b)
+RowOf x r = (r.number ≡ (said x).number) × (r.a ≡ (said x).a) × (r.b ≡ (said x).b)
 
 -- what checks find: all pass, or the first fault
-abbrev pub Finds : List Test → Checked → Type 0
-Finds cs Good = Passes cs
-Finds cs (Refused r) = Fault cs (said r)
+abbrev pub Finds : List Test → Result (Unit {0}) Refusal → Type 0
+Finds cs (Ok _) = Passes cs
+Finds cs (Err r) = Fault cs (said r)
 
 -- what is told: of what the checks pass, an answer that P says; otherwise the first fault
-abbrev pub Told : {A : Type 0} → List Test → (A → Type 0) → A ⊎ Refusal → Type 0
-Told cs P (inl a) = Passes cs × P a
-Told cs P (inr x) = Fault cs (said x)
+abbrev pub Told : {A : Type 0} → List Test → (A → Type 0) → Result A Refusal → Type 0
+Told cs P (Ok a) = Passes cs × P a
+Told cs P (Err x) = Fault cs (said x)
 
 -- writing what the checks pass makes what was asked for; otherwise the first fault is answered and all is as it was
-abbrev pub Writes : {A : Type 0} → List Test → A → A → A → Checked → Type 0
-Writes cs made before after Good = Passes cs × (after ≡ made)
-Writes cs made before after (Refused r) = Fault cs (said r) × (after ≡ before)
+abbrev pub Writes : {A : Type 0} → List Test → A → A → A → Result (Unit {0}) Refusal → Type 0
+Writes cs made before after (Ok _) = Passes cs × (after ≡ made)
+Writes cs made before after (Err r) = Fault cs (said r) × (after ≡ before)

@@ -1,10 +1,11 @@
 // Refusals, and what checks find.
 #![tactic(auto)]
 
+ghost use Rattle.std.specs.Prelude.{◌≡◌};
 ghost use Rattle.refusal.specs.Said.{RowOf};
 
 // A refusal: what comes back when it can't be done, a case for each row of the table. specs/Said.antt gives each its number and places.
-#[derive(Clone, Copy)]
+#[derive(Clone, Copy, PartialEq, Eq)]
 pub enum Refusal {
     // the length of a room, a book or an input
     Length,
@@ -37,36 +38,43 @@ pub enum Refusal {
     Face(usize),
 }
 
-// What a check finds.
-#[derive(Clone, Copy)]
-pub enum Checked {
-    Good,
-    Refused(Refusal),
-}
-
 // A row of the table, filled in: the number of a refusal and its two places, 0 where it has none.
 #[derive(Clone, Copy)]
-pub struct Row(pub usize, pub usize, pub usize);
+pub struct Row {
+    pub number: usize,
+    pub a: usize,
+    pub b: usize,
+}
 
-pub fn row_of(x: Refusal) -> Row
-    ensures { RowOf x result }
+fn filled(number: usize, a: usize, b: usize) -> Row
+    ensures { result ≡ record { number = number; a = a; b = b } }
 {
-    match x {
-        Refusal::Length => Row(1, 0, 0),
-        Refusal::Check => Row(2, 0, 0),
-        Refusal::Kind(a) => Row(3, a, 0),
-        Refusal::Reach(a) => Row(4, a, 0),
-        Refusal::Corners => Row(5, 0, 0),
-        Refusal::Same(a) => Row(6, a, 0),
-        Refusal::Fold(a) => Row(7, a, 0),
-        Refusal::Meet(a, b) => Row(8, a, b),
-        Refusal::Clockwise => Row(9, 0, 0),
-        Refusal::Short => Row(10, 0, 0),
-        Refusal::NotNumber(a, b) => Row(11, a, b),
-        Refusal::Beyond(a, b) => Row(12, a, b),
-        Refusal::OffGrid(a, b) => Row(13, a, b),
-        Refusal::Line(a) => Row(14, a, 0),
-        Refusal::Index(a) => Row(15, a, 0),
-        Refusal::Face(a) => Row(16, a, 0),
+    Row { number, a, b }
+}
+
+impl From<Refusal> for Row {
+    ghost from_gives = { RowOf };
+
+    fn from(x: Refusal) -> Row
+        ensures { RowOf x result }
+    {
+        match x {
+            Refusal::Length => filled(1, 0, 0),
+            Refusal::Check => filled(2, 0, 0),
+            Refusal::Kind(a) => filled(3, a, 0),
+            Refusal::Reach(a) => filled(4, a, 0),
+            Refusal::Corners => filled(5, 0, 0),
+            Refusal::Same(a) => filled(6, a, 0),
+            Refusal::Fold(a) => filled(7, a, 0),
+            Refusal::Meet(a, b) => filled(8, a, b),
+            Refusal::Clockwise => filled(9, 0, 0),
+            Refusal::Short => filled(10, 0, 0),
+            Refusal::NotNumber(a, b) => filled(11, a, b),
+            Refusal::Beyond(a, b) => filled(12, a, b),
+            Refusal::OffGrid(a, b) => filled(13, a, b),
+            Refusal::Line(a) => filled(14, a, 0),
+            Refusal::Index(a) => filled(15, a, 0),
+            Refusal::Face(a) => filled(16, a, 0),
+        }
     }
 }
