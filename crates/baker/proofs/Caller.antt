@@ -1,4 +1,5 @@
 -- What a C caller knows from the macros alone, where BAKER_REFUSED says 0. Assumes nothing.
+use Rattle.std.specs.Prelude.{Ok, Err}
 use mathlib.Core.Path.{◌≡◌, sym, subst}
 use mathlib.Core.Logic.{◌⊎◌, inl, inr, ⊎_elim}
 use mathlib.Core.List.{List}
@@ -11,21 +12,17 @@ use Rattle.rules.specs.Good.{run_checks, piece_checks}
 use Rattle.rules.specs.Verdict as rules
 use Rattle.rules.specs.Verdict.{answer}
 use Rattle.refusal.specs.Said.{Finds, Writes}
-use Rattle.refusal.specs.declared.Checked.{Checked}
-use Rattle.refusal.specs.declared.Checked.TheVariants.{Good, Refused}
+use Rattle.refusal.specs.Said.{Checked}
 use Rattle.piece.specs.Tells.{coded_of}
 use Rattle.piece.proofs.Tells.{TellsCode, tells_code}
-use Rattle.piece.specs.declared.motion.Coded as piece
-use Rattle.piece.specs.declared.motion.Coded.TheVariants as verdict
+--TODO use Rattle.piece.specs.declared.motion.Coded as piece
 use Rattle.block.specs.Layout.{header_block, run_block}
 use Rattle.piece_block.specs.Layout.{piece_block}
 use Rattle.block.specs.Reading.{header_asked, run_asked, HeaderSays}
 use Rattle.piece_block.specs.Reading.{piece_asked}
-use Rattle.block.specs.declared.HeaderRead.{HeaderRead}
-use Rattle.block.specs.declared.HeaderRead.TheVariants as header
+use Rattle.block.specs.Reading.{HeaderRead}
 use Rattle.obj.specs.File.{Drawn, ObjSays}
-use Rattle.obj.specs.declared.Outline.{Outline}
-use Rattle.obj.specs.declared.Outline.TheVariants as outline
+use Rattle.obj.specs.File.{Outline}
 use Rattle.room.specs.Verdicts.{Filled, VerdictsSay}
 use Rattle.room.specs.declared.Counted.{Counted}
 use Rattle.room.specs.declared.Counted.TheVariants as counted
@@ -43,29 +40,29 @@ use Rattle.baker.proofs.Read.{write_piece_read, read_header_read, room_verdicts_
 
 -- of a call that only checks, writes or takes in: every check passed, and what was lent is what was to be made
 module _ (S : Checked → Type 0) (c : ℕ) (z : macro.refused c ≡ 0) where
-  good : (h : Coded S checked_code c) → Reads c (checked_means h.answer) → S Good
+  good : (h : Coded S checked_code c) → Reads c (checked_means h.answer) → S (Ok tt)
   good h k = by_case h.answer h.says k.macros
     where
-      by_case : (x : Checked) → S x → Macros c (checked_means x) → S Good
-      by_case Good t m = t
-      by_case (Refused x) t m = let e = m.refused in absurd (omega arith)
+      by_case : (x : Checked) → S x → Macros c (checked_means x) → S (Ok tt)
+      by_case (Ok _) t m = t
+      by_case (Err x) t m = let e = m.refused in absurd (omega arith)
 
-pub check_run_good : (r : Run) (c : ℕ) → macro.refused c ≡ 0 → CheckRunGives r c → Finds (run_checks r) Good
+pub check_run_good : (r : Run) (c : ℕ) → macro.refused c ≡ 0 → CheckRunGives r c → Finds (run_checks r) (Ok tt)
 check_run_good r c z h = good (Finds (run_checks r)) c z h (check_run_read r c h)
 
-pub check_piece_good : (k : Piece) (c : ℕ) → macro.refused c ≡ 0 → CheckPieceGives k c → Finds (piece_checks k) Good
+pub check_piece_good : (k : Piece) (c : ℕ) → macro.refused c ≡ 0 → CheckPieceGives k c → Finds (piece_checks k) (Ok tt)
 check_piece_good k c z h = good (Finds (piece_checks k)) c z h (check_piece_read k c h)
 
-pub write_header_good : (n : ℕ) (before after : List ℕ) (c : ℕ) → macro.refused c ≡ 0 → WriteHeaderGives n before after c → Writes (header_asked before n) (header_block n) before after Good
+pub write_header_good : (n : ℕ) (before after : List ℕ) (c : ℕ) → macro.refused c ≡ 0 → WriteHeaderGives n before after c → Writes (header_asked before n) (header_block n) before after (Ok tt)
 write_header_good n before after c z h = good (Writes (header_asked before n) (header_block n) before after) c z h (write_header_read n before after c h)
 
-pub write_run_good : (r : Run) (before after : List ℕ) (c : ℕ) → macro.refused c ≡ 0 → WriteRunGives r before after c → Writes (run_asked before r) (run_block r) before after Good
+pub write_run_good : (r : Run) (before after : List ℕ) (c : ℕ) → macro.refused c ≡ 0 → WriteRunGives r before after c → Writes (run_asked before r) (run_block r) before after (Ok tt)
 write_run_good r before after c z h = good (Writes (run_asked before r) (run_block r) before after) c z h (write_run_read r before after c h)
 
-pub write_piece_good : (k : Piece) (before after : List ℕ) (c : ℕ) → macro.refused c ≡ 0 → WritePieceGives k before after c → Writes (piece_asked before k) (piece_block k) before after Good
+pub write_piece_good : (k : Piece) (before after : List ℕ) (c : ℕ) → macro.refused c ≡ 0 → WritePieceGives k before after c → Writes (piece_asked before k) (piece_block k) before after (Ok tt)
 write_piece_good k before after c z h = good (Writes (piece_asked before k) (piece_block k) before after) c z h (write_piece_read k before after c h)
 
-pub intake_good : (xs : List Float) (before after : List ℤ) (c : ℕ) → macro.refused c ≡ 0 → IntakeGives xs before after c → Exported xs before after Good
+pub intake_good : (xs : List Float) (before after : List ℤ) (c : ℕ) → macro.refused c ≡ 0 → IntakeGives xs before after c → Exported xs before after (Ok tt)
 intake_good xs before after c z h = good (Exported xs before after) c z h (intake_read xs before after c h)
 
 -- of a code that is read
@@ -77,23 +74,23 @@ pub verdict_value : (r : Run) (k : Piece) (c : ℕ) → VerdictGives r k c → m
 verdict_value r k c h z = by_case (coded_of h.answer) (tells_code r k h.answer h.says) (verdict_read r k c h).macros
   where
     by_case : (x : piece.Coded) → TellsCode r k x → Macros c (coded_means x) → rules.Verdict r k (answer (macro.value c))
-    by_case (verdict.Code n) t m = coded r k (macro.value c) n m.value t.verdict
-    by_case (verdict.Refused x) t m = let e = m.refused in absurd (omega arith)
+    by_case (Ok n) t m = coded r k (macro.value c) n m.value t.verdict
+    by_case (Err x) t m = let e = m.refused in absurd (omega arith)
 
 -- of baker_read_header, baker_room_verdicts and baker_obj: it is the count
-pub read_header_value : (l : List ℕ) (c : ℕ) → ReadHeaderGives l c → macro.refused c ≡ 0 → HeaderSays l (header.Count (macro.value c))
+pub read_header_value : (l : List ℕ) (c : ℕ) → ReadHeaderGives l c → macro.refused c ≡ 0 → HeaderSays l (Ok (macro.value c))
 read_header_value l c h z = by_case h.answer h.says (read_header_read l c h).macros
   where
-    by_case : (x : HeaderRead) → HeaderSays l x → Macros c (header_means x) → HeaderSays l (header.Count (macro.value c))
-    by_case (header.Count n) t m = subst (λ (i : ℕ). HeaderSays l (header.Count i)) (sym m.value) t
-    by_case (header.NoHeader x) t m = let e = m.refused in absurd (omega arith)
+    by_case : (x : HeaderRead) → HeaderSays l x → Macros c (header_means x) → HeaderSays l (Ok (macro.value c))
+    by_case (Ok n) t m = subst (λ (i : ℕ). HeaderSays l (Ok i)) (sym m.value) t
+    by_case (Err x) t m = let e = m.refused in absurd (omega arith)
 
 pub obj_value : (file : List ℕ) (k : List ℤ → Piece) (before after : List ℤ) (c : ℕ) → ObjGives file k before after c → macro.refused c ≡ 0 → Drawn file k before after (macro.value c)
 obj_value file k before after c h z = by_case h.answer h.says (obj_read file k before after c h).macros
   where
     by_case : (x : Outline) → ObjSays file k before after x → Macros c (outline_means x) → Drawn file k before after (macro.value c)
-    by_case (outline.Corners n) t m = subst (Drawn file k before after) (sym m.value) t
-    by_case (outline.Refused x) t m = let e = m.refused in absurd (omega arith)
+    by_case (Ok n) t m = subst (Drawn file k before after) (sym m.value) t
+    by_case (Err x) t m = let e = m.refused in absurd (omega arith)
 
 pub room_verdicts_value : (r : Run) (image before after : List ℕ) (c : ℕ) → RoomVerdictsGives r image before after c → macro.refused c ≡ 0 → Filled r image before after (macro.value c)
 room_verdicts_value r image before after c h z = by_case h.answer h.says (room_verdicts_read r image before after c h).macros

@@ -1,4 +1,5 @@
 -- Numbers put into a lent list from its begin. Assumes nothing.
+use Rattle.std.specs.Prelude.{Ok, Err}
 use mathlib.Core.Path.{◌≡◌, refl, sym, ap, ◌∙◌}
 use mathlib.Core.Logic.{⊎_elim}
 use mathlib.Core.List.{List, ◌++◌, append_assoc, append-nil}
@@ -14,8 +15,7 @@ use Rattle.rules.specs.Refusal.{refuse}
 use Rattle.rules.proofs.Checks.{definite_demand}
 use Rattle.refusal.specs.Said.{Writes}
 use Rattle.refusal.proofs.Unique.{written}
-use Rattle.refusal.specs.declared.Checked.{Checked}
-use Rattle.refusal.specs.declared.Checked.TheVariants.{Good, Refused}
+use Rattle.refusal.specs.Said.{Checked}
 use Rattle.piece_block.specs.declared.PieceRead.{PieceRead}
 use Rattle.piece_block.specs.Reading.{PieceFound, PieceSays}
 use Rattle.piece_block.proofs.PieceLaws.{held_few}
@@ -35,8 +35,8 @@ abbrev Puts : List ℤ → List ℤ → List ℤ → Checked → Type 0
 Puts l before after r = Writes (put_checks l before) (fronted l before) before after r
 
 pub put_listed : (l before after : List ℤ) (r : Checked) (c : ℕ) → Puts l before after r → c ≡ checked_code r → out c after ≡ coded (listed (length l) before 0 l)
-put_listed l before after Good c w e = (λ i. out (e i) (w.1 i)) ∙ sym (long (length l) before 0 l w.0.0)
-put_listed l before after (Refused x) c w e =
+put_listed l before after (Ok _) c w e = (λ i. out (e i) (w.1 i)) ∙ sym (long (length l) before 0 l w.0.0)
+put_listed l before after (Err x) c w e =
     ⊎_elim (λ h. (λ i. out ((e ∙ ap refusal_code h.1) i) (w.1 i)) ∙ sym (short (length l) before 0 l (less h.0))) (λ h. absurd h.1) w.0
   where
     less : (length l ≤ length before → ⊥) → length before < length l
@@ -60,18 +60,18 @@ laid_two before l m =
 -- ---- a piece that was read
 -- it has so many corners
 read_found : (l : List ℕ) (r : PieceRead) (x : Checked) → PieceFound l r x → r.count ≤ 64
-read_found l r Good f = omega (arith, held_few l r f)
-read_found l r (Refused x) f = omega (arith, f.holds.count)
+read_found l r (Ok _) f = omega (arith, held_few l r f)
+read_found l r (Err x) f = omega (arith, f.holds.count)
 
 pub read_few : (l : List ℕ) (r : PieceRead) → PieceSays l r → r.count ≤ 64
 read_few l r f = read_found l r r.found f
 
 -- it is good where the code of what was found is 0; any other code is answered, and the list is kept
-pub found_good : (x : Checked) (c : ℕ) → c ≡ checked_code x → c ≡ 0 → x ≡ Good
+pub found_good : (x : Checked) (c : ℕ) → c ≡ checked_code x → c ≡ 0 → x ≡ Ok tt
 unfolding refusal_code
-found_good Good c e z = refl
-found_good (Refused x) c e z = absurd (omega arith)
+found_good (Ok _) c e z = refl
+found_good (Err x) c e z = absurd (omega arith)
 
 pub found_kept : (before : List ℤ) (r : PieceRead) (x : Checked) (c : ℕ) → c ≡ checked_code x → (c ≡ 0 → ⊥) → out c before ≡ coded (piece_found before r x)
-found_kept before r Good c e n = absurd (n e)
-found_kept before r (Refused x) c e n = ap (λ (k : ℕ). out k before) e
+found_kept before r (Ok _) c e n = absurd (n e)
+found_kept before r (Err x) c e n = ap (λ (k : ℕ). out k before) e

@@ -1,4 +1,5 @@
 -- An export as corners: an intake looks at no corner past its count, and an export's corners are its pairs. Assumes nothing.
+use Rattle.std.specs.Prelude.{Ok, Err}
 use mathlib.Core.Path.{◌≡◌, refl, sym, subst, ◌∙◌}
 use mathlib.Core.Logic.{inl, inr, ⊎_elim}
 use mathlib.Core.List.{List, [], ◌∷◌, ◌++◌}
@@ -12,12 +13,10 @@ use Rattle.whole.proofs.Order.{ℕ_or}
 use Rattle.rules.specs.Reach.{Corners}
 use Rattle.rules.specs.Refusal.{Check, demand, refuse, in_turn}
 use Rattle.refusal.specs.Said.{Finds}
-use Rattle.refusal.specs.declared.Checked.{Checked}
-use Rattle.refusal.specs.declared.Checked.TheVariants.{Good, Refused}
+use Rattle.refusal.specs.Said.{Checked}
 use Rattle.refusal.specs.declared.Refusal.TheVariants as refusal
 use Rattle.refusal.proofs.Finds.{finds_after}
 use Rattle.intake.specs.declared.Corner.{Corner}
-use Rattle.grid.specs.declared.Taken.TheVariants.{Grid}
 use Rattle.grid.specs.Number.{Answer}
 use Rattle.intake.specs.Footprint.{corner_at, corner_checks, corners_checks, intake_checks, Later, Intake}
 use Rattle.baker.specs.Export.{corners, export_checks, Exported, Paired}
@@ -57,14 +56,14 @@ module _ (cs ds : List Corner) (n : ℕ) (same : (i : ℕ) → i < n → corner_
   checks_same (suc k) h = λ i. checks_same k (omega arith) i ++ corner_checks (same k (omega arith) i) k
 
   later_same : (before : List ℤ) (r : Checked) (later : List ℤ) → Later cs n before r later → Later ds n before r later
-  later_same before Good later f = (
+  later_same before (Ok _) later f = (
     record {
-      x = λ i h. subst (λ (c : Corner). Answer c.x (Grid (get_or later (2 * i) (pos 0)))) (same i h) (f.0.x i h);
-      y = λ i h. subst (λ (c : Corner). Answer c.y (Grid (get_or later (2 * i + 1) (pos 0)))) (same i h) (f.0.y i h);
+      x = λ i h. subst (λ (c : Corner). Answer c.x (Ok (get_or later (2 * i) (pos 0)))) (same i h) (f.0.x i h);
+      y = λ i h. subst (λ (c : Corner). Answer c.y (Ok (get_or later (2 * i + 1) (pos 0)))) (same i h) (f.0.y i h);
     },
     f.1,
   )
-  later_same before (Refused x) later f = f
+  later_same before (Err x) later f = f
 
   intake_same : (before : List ℤ) (r : Checked) (later : List ℤ) → Intake cs n before r later → Intake ds n before r later
   unfolding intake_checks
@@ -84,10 +83,10 @@ module _ (xs : List Float) (cs : List Corner) (before later : List ℤ) (r : Che
       record { finds = finds_after (demand (length xs % 2 ≡ 0) (refuse 5 0 0)) (intake_checks (corners xs) n (length before)) r even g.finds; list = g.list }
 
 -- ---- lists that no intake is asked of
-pub odd_refused : (xs : List Float) (before : List ℤ) → (length xs % 2 ≡ 0 → ⊥) → Exported xs before before (Refused refusal.Corners)
+pub odd_refused : (xs : List Float) (before : List ℤ) → (length xs % 2 ≡ 0 → ⊥) → Exported xs before before (Err refusal.Corners)
 unfolding export_checks
 odd_refused xs before h = record { finds = inl (h, refl); list = refl }
 
-pub many_refused : (xs : List Float) (before : List ℤ) → length xs % 2 ≡ 0 → 64 < length xs / 2 → Exported xs before before (Refused refusal.Corners)
+pub many_refused : (xs : List Float) (before : List ℤ) → length xs % 2 ≡ 0 → 64 < length xs / 2 → Exported xs before before (Err refusal.Corners)
 unfolding export_checks intake_checks
 many_refused xs before even h = record { finds = inr (even, inl ((λ (k : Corners (length xs / 2)). let m = k.most in absurd (omega (arith, m))), refl)); list = refl }

@@ -1,4 +1,7 @@
 -- What a C caller reads from what each call gives, by the macros and by `told`, is that call's answer. Assumes nothing.
+use Rattle.std.specs.Prelude.{Ok, Err}
+use Rattle.grid.specs.declared.NotTaken.TheVariants.{OffGrid, NotNumber, Beyond}
+use Rattle.piece.specs.declared.spot.Spot.TheVariants.{On, Inside, Outside}
 use mathlib.Core.Bool.{Bool, true, false, cond}
 use mathlib.Core.List.{List}
 use Prim.Native.Nat.{ℕ, suc, ◌*◌, ◌≤◌, ◌<◌, ◌^◌}
@@ -14,33 +17,26 @@ use Rattle.rules.specs.Refusal.{refuse, Check, Passes}
 use Rattle.rules.specs.Good.{run_checks, piece_checks}
 use Rattle.rules.proofs.Checks.{passes_left, passes_right}
 use Rattle.refusal.specs.Said.{said, Finds, Writes, said_in}
-use Rattle.refusal.specs.declared.Checked.{Checked}
-use Rattle.refusal.specs.declared.Checked.TheVariants.{Good, Refused}
+use Rattle.refusal.specs.Said.{Checked}
 use Rattle.piece.specs.Place.{Lies}
 use Rattle.piece.specs.Tells.{Tells, coded_of}
 use Rattle.piece.proofs.Tells.{TellsCode, tells_code}
-use Rattle.piece.specs.declared.Placed.{Placed}
-use Rattle.piece.specs.declared.Placed.TheVariants as placed
-use Rattle.piece.specs.declared.motion.Coded as piece
-use Rattle.piece.specs.declared.motion.Coded.TheVariants as verdict
+use Rattle.piece.specs.Place.{Placed}
+--TODO use Rattle.piece.specs.declared.motion.Coded as piece
 use Rattle.good.specs.Numbers.{run_of, piece_of}
 use Rattle.block.specs.Layout.{header_block, run_numbers, run_block}
 use Rattle.piece_block.specs.Layout.{piece_numbers, piece_block}
 use Rattle.seal.specs.Seal.{block_at}
 use Rattle.block.specs.Reading.{header_asked, run_asked, HeaderSays, RunSays}
 use Rattle.piece_block.specs.Reading.{piece_asked, PieceSays, PieceFound}
-use Rattle.block.specs.declared.HeaderRead.{HeaderRead}
-use Rattle.block.specs.declared.HeaderRead.TheVariants as header
-use Rattle.block.specs.declared.RunRead.{RunRead}
-use Rattle.block.specs.declared.RunRead.TheVariants as run
+use Rattle.block.specs.Reading.{HeaderRead}
+use Rattle.block.specs.Reading.{RunRead}
 use Rattle.piece_block.specs.declared.PieceRead.{PieceRead}
 use Rattle.grid.specs.Number.{Answer}
-use Rattle.grid.specs.declared.Taken.{Taken}
-use Rattle.grid.specs.declared.Taken.TheVariants as taken
+use Rattle.grid.specs.Number.{Taken}
 use Rattle.line.specs.Text.{lines}
 use Rattle.obj.specs.File.{obj_checks, ObjSays}
-use Rattle.obj.specs.declared.Outline.{Outline}
-use Rattle.obj.specs.declared.Outline.TheVariants as outline
+use Rattle.obj.specs.File.{Outline}
 use Rattle.obj.proofs.Bounds.{face_few}
 use Rattle.room.specs.Image.{room_checks}
 use Rattle.room.specs.Step.{StepSays, StepFinds, piece_read}
@@ -69,26 +65,26 @@ use Rattle.baker.proofs.Arise.{fit_export}
 -- ---- every answer is within its bits
 module _ (cs : List Check) (fit : AllFit cs) where
   finds : (x : Checked) → Finds cs x → Within (checked_means x)
-  finds Good h = omega arith
-  finds (Refused x) h = fit.fits (said x) h
+  finds (Ok _) h = omega arith
+  finds (Err x) h = fit.fits (said x) h
 
   writes : {A : Type 0} (made before after : A) (x : Checked) → Writes cs made before after x → Within (checked_means x)
-  writes made before after Good h = omega arith
-  writes made before after (Refused x) h = fit.fits (said x) h.0
+  writes made before after (Ok _) h = omega arith
+  writes made before after (Err x) h = fit.fits (said x) h.0
 
 lies : (p : Pt) (l : List ℤ) (x : Placed) → Lies p l x → Within (placed_means x)
-lies p l placed.Outside h = omega arith
-lies p l placed.Inside h = omega arith
-lies p l placed.On h = omega arith
-lies p l (placed.Refused x) h = (fit_place p l).fits (said x) h
+lies p l (Ok Outside) h = omega arith
+lies p l (Ok Inside) h = omega arith
+lies p l (Ok On) h = omega arith
+lies p l (Err x) h = (fit_place p l).fits (said x) h
 
 tells : (r : Run) (k : Piece) (x : piece.Coded) → TellsCode r k x → Within (coded_means x)
-tells r k (verdict.Code c) h = omega (arith, h.most)
-tells r k (verdict.Refused x) h = (fit_verdict r k).fits (said x) h
+tells r k (Ok c) h = omega (arith, h.most)
+tells r k (Err x) h = (fit_verdict r k).fits (said x) h
 
 heads : (l : List ℕ) (x : HeaderRead) → HeaderSays l x → Within (header_means x)
-heads l (header.Count n) h = let f = h.0 in omega arith
-heads l (header.NoHeader x) h = (fit_header l).fits (said x) h
+heads l (Ok n) h = let f = h.0 in omega arith
+heads l (Err x) h = (fit_header l).fits (said x) h
 
 counts : (r : Run) (image before after : List ℕ) (x : Counted) → VerdictsSay r image before after x → Within (counted_means x)
 unfolding verdicts_checks
@@ -107,9 +103,9 @@ unfolding obj_checks
 short_file file k size p = p.0
 
 draws : (file : List ℕ) (k : List ℤ → Piece) (before after : List ℤ) (x : Outline) → ObjSays file k before after x → Within (outline_means x)
-draws file k before after (outline.Corners n) h =
+draws file k before after (Ok n) h =
     omega (arith, h.count, face_few file (length (lines file)) h.points h.face, short_file file k (length before) h.passes)
-draws file k before after (outline.Refused x) h = (fit_obj file k (length before)).fits (said x) h.0
+draws file k before after (Err x) h = (fit_obj file k (length before)).fits (said x) h.0
 
 -- ---- and so are those beside a lent list
 lists : (least : ℕ) (before : List ℤ) (n : ℕ) (l : List ℤ) → n < 2 ^ 32 → Within (listed least before n l).says
@@ -120,17 +116,17 @@ lists least before n l h = by_length (leb least (length before))
     by_length false = fit_short
 
 runs : (l : List ℕ) (before : List ℤ) (x : RunRead) → RunSays l x → Within (run_listed before x).says
-runs l before (run.Found r) h = lists 7 before 0 (run_numbers (run_of r)) (omega arith)
-runs l before (run.NoRun x) h = (fit_run_block l).fits (said x) h
+runs l before (Ok r) h = lists 7 before 0 (run_numbers (run_of r)) (omega arith)
+runs l before (Err x) h = (fit_run_block l).fits (said x) h
 
 pieces : (l : List ℕ) (before : List ℤ) (r : PieceRead) → PieceSays l r → Within (piece_listed before r).says
 pieces l before r h = by_case r.found h
   where
     by_case : (x : Checked) → PieceFound l r x → Within (piece_found before r x).says
-    by_case Good f =
+    by_case (Ok tt) f =
         let m = read_few l r h in let corners = take (2 * r.count) r.corners in
         lists 133 before r.count (piece_numbers (piece_of r.slab corners)) (omega arith)
-    by_case (Refused x) f = (fit_piece_block l).fits (said x) f.fault
+    by_case (Err x) f = (fit_piece_block l).fits (said x) f.fault
 
 steps : (image : List ℕ) (place : ℕ) (before : List ℤ) (s : Step) → StepSays image place s → Within (step_listed before s).says
 steps image place before s h = by_case s.found h
@@ -141,10 +137,10 @@ steps image place before s h = by_case s.found h
     by_case (found.Refused x b) g = fit_step image place (said_in x b) g.fault
 
 takes : (x : Float) (g : ℤ) (f : Float) (t : Taken) → Answer x t → Within (taken_one g f t).says
-takes x g f (taken.Grid k) h = omega arith
-takes x g f (taken.OffGrid w) h = omega arith
-takes x g f taken.NotNumber h = omega arith
-takes x g f taken.Beyond h = omega arith
+takes x g f (Ok k) h = omega arith
+takes x g f (Err (OffGrid w)) h = omega arith
+takes x g f (Err NotNumber) h = omega arith
+takes x g f (Err Beyond) h = omega arith
 
 -- ---- plain numbers
 pub check_run_read : (r : Run) (c : ℕ) (h : CheckRunGives r c) → Reads c (checked_means h.answer)

@@ -1,4 +1,5 @@
 -- Two outcomes of a call that both meet its contract are equal: the number that comes back, and what was lent. Assumes nothing.
+use Rattle.std.specs.Prelude.{Ok, Err}
 use mathlib.Core.Path.{◌≡◌, sym, ap, subst, ◌∙◌}
 use mathlib.Core.List.{List}
 use Prim.Native.Nat.{ℕ, ◌/◌, ◌%◌}
@@ -11,8 +12,7 @@ use Rattle.rules.specs.Ring.{Pt}
 use Rattle.rules.specs.Good.{run_checks, piece_checks}
 use Rattle.rules.proofs.Checks.{AllDefinite, definite_demand}
 use Rattle.refusal.specs.Said.{Finds, Writes}
-use Rattle.refusal.specs.declared.Checked.{Checked}
-use Rattle.refusal.specs.declared.Checked.TheVariants.{Good, Refused}
+use Rattle.refusal.specs.Said.{Checked}
 use Rattle.refusal.proofs.Unique.{finds_one}
 use Rattle.good.specs.declared.Run as plain
 use Rattle.good.specs.declared.Slab.{Slab}
@@ -106,9 +106,9 @@ definite_export xs size = (definite_demand (length xs % 2 ≡ 0) (refuse 5 0 0),
 -- a list that was filled is filled in one way
 later_one : (xs : List Float) (before a b : List ℤ) (r : Checked) → Exported xs before a r → Exported xs before b r → a ≡ b
 unfolding export_checks
-later_one xs before a b (Refused x) h k = h.list ∙ sym k.list
-later_one xs before a b Good h k =
-    (one_intake (corners xs) (length xs / 2) before a b Good Good (record { finds = h.finds.1; list = h.list }) (record { finds = k.finds.1; list = k.list })).1
+later_one xs before a b (Err x) h k = h.list ∙ sym k.list
+later_one xs before a b (Ok tt) h k =
+    (one_intake (corners xs) (length xs / 2) before a b (Ok _) (Ok _) (record { finds = h.finds.1; list = h.list }) (record { finds = k.finds.1; list = k.list })).1
 
 exported_one : (xs : List Float) (before a b : List ℤ) (r s : Checked) → Exported xs before a r → Exported xs before b s → (r ≡ s) × (a ≡ b)
 exported_one xs before a b r s h k =

@@ -1,20 +1,17 @@
 -- What a call that reads into a lent list leaves there. Assumes nothing.
-use Rattle.std.specs.Prelude.{cond, List, ℕ, ◌*◌, leb, ℤ, length, take}
+use Rattle.std.specs.Prelude.{cond, List, ℕ, ◌*◌, leb, ℤ, length, take, Option, Some, None, Result, Ok, Err}
 use Rattle.whole.specs.Front.{fronted}
 use Rattle.rules.specs.Refusal.{Refusal, refuse}
-use Rattle.refusal.specs.Said.{said, said_in}
-use Rattle.refusal.specs.declared.Checked.{Checked}
-use Rattle.refusal.specs.declared.Checked.TheVariants.{Good, Refused}
+use Rattle.refusal.specs.declared.Refusal as declared
+use Rattle.refusal.specs.Said.{said}
 use Rattle.good.specs.Numbers.{run_of, piece_of}
 use Rattle.block.specs.Layout.{run_numbers}
 use Rattle.piece_block.specs.Layout.{piece_numbers}
-use Rattle.block.specs.declared.RunRead.{RunRead}
-use Rattle.block.specs.declared.RunRead.TheVariants.{Found, NoRun}
+use Rattle.block.specs.Reading.{RunRead}
 use Rattle.piece_block.specs.declared.PieceRead.{PieceRead}
-use Rattle.room.specs.Step.{piece_read}
+use Rattle.room.specs.Image.{room_said}
+use Rattle.room.specs.Step.{Found}
 use Rattle.room.specs.declared.Step.{Step}
-use Rattle.room.specs.declared.Found as room
-use Rattle.room.specs.declared.Found.TheVariants as found
 use Rattle.coding.specs.Coded.{Meaning, value, refusal, Out, out}
 
 -- a refusal, and the list as it was
@@ -27,22 +24,22 @@ listed least before n l = cond (leb least (length before)) (out (value n) (front
 
 -- x, y, z, the velocity and T
 abbrev pub run_listed : List ℤ → RunRead → Out Meaning (List ℤ)
-run_listed before (Found r) = listed 7 before 0 (run_numbers (run_of r))
-run_listed before (NoRun x) = kept before (said x)
+run_listed before (Ok r) = listed 7 before 0 (run_numbers (run_of r))
+run_listed before (Err x) = kept before (said x)
 
 -- the corner count; bottom, top, the velocity and the corners
-abbrev pub piece_found : List ℤ → PieceRead → Checked → Out Meaning (List ℤ)
-piece_found before r Good = listed 133 before r.count (piece_numbers (piece_of r.slab (take (2 * r.count) r.corners)))
-piece_found before r (Refused x) = kept before (said x)
+abbrev pub piece_found : List ℤ → PieceRead → Out Meaning (List ℤ)
+piece_found before r = listed 133 before r.count (piece_numbers (piece_of r.slab (take (2 * r.count) r.corners)))
 
-abbrev pub piece_listed : List ℤ → PieceRead → Out Meaning (List ℤ)
-piece_listed before r = piece_found before r r.found
+abbrev pub piece_listed : List ℤ → Result PieceRead declared.Refusal → Out Meaning (List ℤ)
+piece_listed before (Ok r) = piece_found before r
+piece_listed before (Err x) = kept before (said x)
 
 -- a step of a reader: a piece that was read; 0 for the end, which needs no list
-abbrev pub step_found : List ℤ → Step → room.Found → Out Meaning (List ℤ)
-step_found before s found.Piece = piece_listed before (piece_read s)
-step_found before s found.End = out (value 0) before
-step_found before s (found.Refused x b) = kept before (said_in x b)
+abbrev pub step_found : List ℤ → Found → Out Meaning (List ℤ)
+step_found before (Ok (Some p)) = piece_found before p
+step_found before (Ok None) = out (value 0) before
+step_found before (Err r) = kept before (room_said r)
 
 abbrev pub step_listed : List ℤ → Step → Out Meaning (List ℤ)
-step_listed before s = step_found before s s.found
+step_listed before s = step_found before s.found

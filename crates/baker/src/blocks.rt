@@ -4,7 +4,6 @@ ghost use Rattle.baker.specs.Calls.{WriteHeaderGives, ReadHeaderGives, WriteRunG
 
 use crate::given::{run_of, slab_of};
 use crate::list::{put_piece, put_run};
-use block::RunRead;
 use coding::{checked, header, refusal};
 
 #[unsafe(no_mangle)]
@@ -43,8 +42,8 @@ pub extern "C" fn baker_read_run(block: &[u8], numbers: &mut [i32]) -> u64
     ensures { ReadRunGives block.now numbers.old numbers.new result }
 {
     match block::read_run(block) {
-        RunRead::NoRun(x) => refusal(x),
-        RunRead::Found(run) => put_run(run, numbers),
+        Err(x) => refusal(x),
+        Ok(run) => put_run(run, numbers),
     }
 }
 
@@ -68,12 +67,8 @@ pub extern "C" fn baker_write_piece(
 pub extern "C" fn baker_read_piece(block: &[u8], numbers: &mut [i32]) -> u64
     ensures { ReadPieceGives block.now numbers.old numbers.new result }
 {
-    let read = piece_block::read_piece(block);
-    let found = read.found;
-    let answer = checked(found);
-    if answer != 0 {
-        return answer;
+    match piece_block::read_piece(block) {
+        Ok(piece) => put_piece(piece, numbers),
+        Err(x) => refusal(x),
     }
-    let corners = read.corners;
-    put_piece(read.slab, corners, read.count, numbers)
 }

@@ -4,25 +4,25 @@ ghost use Rattle.baker.specs.Export.{Exported, Paired};
 ghost use Rattle.baker.specs.Calls.{TakeGives, IntakeGives};
 
 use coding::checked;
-use grid::{Taken, take};
+use grid::{NotTaken, take};
 use intake::Corner;
-use refusal::{Checked, Refusal};
+use refusal::Refusal;
 
 #[unsafe(no_mangle)]
 pub extern "C" fn baker_take(x: f32, grid: &mut i32, floor: &mut f32) -> u64
     ensures { TakeGives x grid.old floor.old grid.new floor.new result }
 {
     match take(x) {
-        Taken::Grid(k) => {
+        Ok(k) => {
             *grid = k;
             0
         }
-        Taken::OffGrid(below) => {
+        Err(NotTaken::OffGrid(below)) => {
             *floor = below;
             1
         }
-        Taken::NotNumber => 2,
-        Taken::Beyond => 3,
+        Err(NotTaken::NotNumber) => 2,
+        Err(NotTaken::Beyond) => 3,
     }
 }
 
@@ -43,16 +43,16 @@ fn corners_of(numbers: &[f32], count: usize) -> [Corner; 64]
 }
 
 #[tactic(auto, using(crate::proofs::Pairs::odd_refused, crate::proofs::Pairs::many_refused))]
-fn export(numbers: &[f32], list: &mut [i32]) -> Checked
+fn export(numbers: &[f32], list: &mut [i32]) -> Result<(), Refusal>
     ensures { Exported numbers.now list.old list.new result }
 {
     let n = numbers.len();
     if n % 2 != 0 {
-        return Checked::Refused(Refusal::Corners);
+        return Err(Refusal::Corners);
     }
     let count = n / 2;
     if 64 < count {
-        return Checked::Refused(Refusal::Corners);
+        return Err(Refusal::Corners);
     }
     let corners = corners_of(numbers, count);
     intake::intake(corners, count, list)

@@ -3,14 +3,13 @@ ghost use Rattle.std.specs.Prelude.{◌≡◌, [], ◌*◌, ◌≤◌, take};
 ghost use Rattle.good.specs.Numbers.{run_of, piece_of};
 ghost use Rattle.block.specs.Layout.{run_numbers};
 ghost use Rattle.piece_block.specs.Layout.{piece_numbers};
-ghost use Rattle.block.specs.declared.RunRead.TheVariants.{Found};
 ghost use Rattle.coding.specs.Coded.{out, coded};
-ghost use Rattle.baker.specs.Listed.{listed, run_listed};
+ghost use Rattle.baker.specs.Listed.{run_listed, piece_found};
 
 use coding::{checked, refusal};
-use good::{Run, Slab};
+use good::Run;
 use intake::put;
-use piece_block::slab_numbers;
+use piece_block::{PieceRead, slab_numbers};
 use refusal::Refusal;
 
 fn run_numbers(run: Run) -> [i32; 7]
@@ -30,22 +29,22 @@ fn run_numbers(run: Run) -> [i32; 7]
 
 pub(crate) fn put_run(run: Run, list: &mut [i32]) -> u64
     requires { run.ticks ≤ 4096 }
-    ensures { out result list.new ≡ coded (run_listed list.old (Found run)) }
+    ensures { out result list.new ≡ coded (run_listed list.old (Ok run)) }
 {
     let front = run_numbers(run);
     checked(put(&front, list))
 }
 
 // A list must have room for the largest piece.
-pub(crate) fn put_piece(slab: Slab, corners: [i32; 128], count: usize, list: &mut [i32]) -> u64
-    requires { count ≤ 64 }
-    ensures { out result list.new ≡ coded (listed 133 list.old count (piece_numbers (piece_of slab (take (2 * count) corners)))) }
+pub(crate) fn put_piece(piece: PieceRead, list: &mut [i32]) -> u64
+    requires { piece.count ≤ 64 }
+    ensures { out result list.new ≡ coded (piece_found list.old piece) }
 {
     if list.len() < 133 {
         return refusal(Refusal::Short);
     }
-    let front = slab_numbers(slab);
-    put(&front, list);
-    put(&corners[..2 * count], &mut list[5..]);
-    count as u64
+    let front = slab_numbers(piece.slab);
+    put(&front, list).unwrap();
+    put(&piece.corners[..2 * piece.count], &mut list[5..]).unwrap();
+    piece.count as u64
 }

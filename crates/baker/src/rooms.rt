@@ -5,21 +5,15 @@ ghost use Rattle.baker.specs.Calls.{RoomPieceGives, RoomVerdictsGives, AskGives}
 use crate::given::{run_of, slab_of};
 use crate::list::put_piece;
 use coding::{asked, counted, refusal_in};
-use room::Found;
 
 #[unsafe(no_mangle)]
 pub extern "C" fn baker_room_piece(image: &[u8], place: usize, numbers: &mut [i32]) -> u64
     ensures { RoomPieceGives image.now place numbers.old numbers.new result }
 {
-    let step = room::piece_at(image, place);
-    let found = step.found;
-    match found {
-        Found::End => 0,
-        Found::Refused(x, block) => refusal_in(x, block),
-        Found::Piece => {
-            let corners = step.corners;
-            put_piece(step.slab, corners, step.count, numbers)
-        }
+    match room::piece_at(image, place).found {
+        Ok(Some(piece)) => put_piece(piece, numbers),
+        Ok(None) => 0,
+        Err(x) => refusal_in(x.refusal, x.block),
     }
 }
 

@@ -7,7 +7,7 @@ use Rattle.rules.proofs.Checks.{Definite, AllDefinite, never_both, one_fault}
 use Rattle.refusal.specs.Said.{Finds}
 use Rattle.block.specs.Reading.{bytes_of, inside}
 use Rattle.block.specs.declared.kind.Kind.{Kind}
-use Rattle.refusal.specs.declared.Checked.{Checked}
+use Rattle.refusal.specs.Said.{Checked}
 
 -- what the bytes of a kind show, where the kind is known
 pub of_kind : {k j : Kind} (l : List ℕ) (r : Checked) → k ≡ j → Finds (bytes_of j l) r → Finds (bytes_of k l) r

@@ -8,7 +8,7 @@ use Rattle.rules.specs.Refusal.{refuse, demand, each}
 use Rattle.rules.proofs.Checks.{definite_demand}
 use Rattle.refusal.specs.Said.{Finds}
 use Rattle.refusal.proofs.Finds.{finds_after, finds_past}
-use Rattle.refusal.specs.declared.Checked.{Checked}
+use Rattle.refusal.specs.Said.{Checked}
 use Rattle.seal.specs.Seal.{block_size, byte, length_check, unnamed_check}
 use Rattle.block.specs.Layout.{edition, piece_kind, run_kind}
 use Rattle.block.specs.Reading.{byte_check, Misspelt, header_bytes, run_bytes, piece_bytes}

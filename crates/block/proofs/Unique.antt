@@ -1,4 +1,5 @@
 -- Two outcomes that both meet a public contract, answer and later bytes, are equal. Assumes nothing.
+use Rattle.std.specs.Prelude.{Ok, Err}
 use mathlib.Core.Path.{◌≡◌, sym, ap, subst, ◌∙◌}
 use mathlib.Core.List.{List, ◌++◌}
 use Prim.Native.Nat.{ℕ}
@@ -7,15 +8,13 @@ use Rattle.rules.specs.Refusal.{Passes}
 use Rattle.rules.proofs.Checks.{never_both}
 use Rattle.refusal.specs.Said.{said, Finds}
 use Rattle.refusal.proofs.Unique.{refused_one, finds_one, writes_one}
-use Rattle.refusal.specs.declared.Checked.{Checked}
+use Rattle.refusal.specs.Said.{Checked}
 use Rattle.good.specs.declared.Run.{Run}
 use Rattle.good.specs.Numbers.{run_of}
 use Rattle.seal.specs.Seal.{block_checks}
 use Rattle.block.specs.declared.kind.Kind.{Kind}
-use Rattle.block.specs.declared.HeaderRead.{HeaderRead}
-use Rattle.block.specs.declared.HeaderRead.TheVariants.{Count, NoHeader}
-use Rattle.block.specs.declared.RunRead.{RunRead}
-use Rattle.block.specs.declared.RunRead.TheVariants.{Found, NoRun}
+use Rattle.block.specs.Reading.{HeaderRead}
+use Rattle.block.specs.Reading.{RunRead}
 use Rattle.block.specs.Layout.{header_block, run_body, run_block}
 use Rattle.block.specs.Reading.{bytes_of, header_checks, run_block_checks, header_asked, run_body_asked, run_asked, HeaderSays, RunSays, WriteHeaderSays, WriteRunSays, WriteRunBodySays}
 use Rattle.block.proofs.Headers.{header_passes, header_one}
@@ -38,12 +37,12 @@ write_run_one run before a b r s = writes_one (run_asked before (run_of run)) (d
 
 -- ---- read_header
 pub read_header_one : (l : List ℕ) (r s : HeaderRead) → HeaderSays l r → HeaderSays l s → r ≡ s
-read_header_one l (Count m) (Count n) f g = ap Count (header_one m n (sym f.1 ∙ g.1))
-read_header_one l (Count m) (NoHeader y) f g =
+read_header_one l (Ok m) (Ok n) f g = ap Ok (header_one m n (sym f.1 ∙ g.1))
+read_header_one l (Ok m) (Err y) f g =
     absurd (never_both (header_checks l) (definite_header l) (said y) (subst (λ l. Passes (header_checks l)) (sym f.1) (header_passes m f.0)) g)
-read_header_one l (NoHeader x) (Count n) f g =
+read_header_one l (Err x) (Ok n) f g =
     absurd (never_both (header_checks l) (definite_header l) (said x) (subst (λ l. Passes (header_checks l)) (sym g.1) (header_passes n g.0)) f)
-read_header_one l (NoHeader x) (NoHeader y) f g = ap NoHeader (refused_one (header_checks l) (definite_header l) x y f g)
+read_header_one l (Err x) (Err y) f g = ap Err (refused_one (header_checks l) (definite_header l) x y f g)
 
 -- ---- read_run
 -- plain numbers are told by the run that they say
@@ -59,7 +58,7 @@ run_of_one r s e = λ i. record {
 }
 
 pub read_run_one : (l : List ℕ) (r s : RunRead) → RunSays l r → RunSays l s → r ≡ s
-read_run_one l (Found r) (Found s) f g = ap Found (run_of_one r s (runs.run_one l (run_of r) (run_of s) (runs.block_in l (run_of r) f) (runs.block_in l (run_of s) g)))
-read_run_one l (Found r) (NoRun y) f g = absurd (never_both (run_block_checks l) (definite_run_block l) (said y) (runs.block_passes l (run_of r) f) g)
-read_run_one l (NoRun x) (Found s) f g = absurd (never_both (run_block_checks l) (definite_run_block l) (said x) (runs.block_passes l (run_of s) g) f)
-read_run_one l (NoRun x) (NoRun y) f g = ap NoRun (refused_one (run_block_checks l) (definite_run_block l) x y f g)
+read_run_one l (Ok r) (Ok s) f g = ap Ok (run_of_one r s (runs.run_one l (run_of r) (run_of s) (runs.block_in l (run_of r) f) (runs.block_in l (run_of s) g)))
+read_run_one l (Ok r) (Err y) f g = absurd (never_both (run_block_checks l) (definite_run_block l) (said y) (runs.block_passes l (run_of r) f) g)
+read_run_one l (Err x) (Ok s) f g = absurd (never_both (run_block_checks l) (definite_run_block l) (said x) (runs.block_passes l (run_of s) g) f)
+read_run_one l (Err x) (Err y) f g = ap Err (refused_one (run_block_checks l) (definite_run_block l) x y f g)

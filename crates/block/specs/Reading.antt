@@ -1,17 +1,14 @@
 -- What reading and writing a header or a run block finds, and which bytes of each kind are no numbers: the order of refusals, and what is answered. Assumes nothing.
-use Rattle.std.specs.Prelude.{◌≡◌, List, [], ◌∷◌, ◌++◌, ℕ, ◌+◌, ◌*◌, ◌<◌, pos, length, get_or}
+use Rattle.std.specs.Prelude.{◌≡◌, List, [], ◌∷◌, ◌++◌, ℕ, ◌+◌, ◌*◌, ◌<◌, pos, length, get_or, Result, Ok, Err}
 use Rattle.rules.specs.Reach.{Corners, Pieces, Run}
 use Rattle.rules.specs.Refusal.{refuse, Check, Passes, Fault, demand, each}
 use Rattle.rules.specs.Good.{run_checks}
-use Rattle.refusal.specs.Said.{said, Writes}
-use Rattle.refusal.specs.declared.Checked.{Checked}
+use Rattle.refusal.specs.Said.{said, Checked, Writes}
+use Rattle.refusal.specs.declared.Refusal.{Refusal}
 use Rattle.good.specs.Numbers.{run_of}
+use Rattle.good.specs.declared.Run as good
 use Rattle.block.specs.declared.kind.Kind.{Kind}
 use Rattle.block.specs.declared.kind.Kind.TheVariants as kind
-use Rattle.block.specs.declared.HeaderRead.{HeaderRead}
-use Rattle.block.specs.declared.HeaderRead.TheVariants.{Count, NoHeader}
-use Rattle.block.specs.declared.RunRead.{RunRead}
-use Rattle.block.specs.declared.RunRead.TheVariants.{Found, NoRun}
 use Rattle.pair.specs.Pair.{Half}
 use Rattle.seal.specs.Seal.{byte, length_check, block_checks, unnamed_check}
 use Rattle.block.specs.Layout.{name, edition, piece_kind, run_kind, run_body_size, header_block, run_numbers, run_body, run_block}
@@ -71,18 +68,26 @@ unfoldable pub run_block_checks : List ℕ → List Check
 run_block_checks l = (block_checks l ++ run_bytes l) ++ (inside (RunIn l) run_checks ∷ [])
 
 -- ---- answers
+-- a header's piece count, or the refusal
+abbrev pub HeaderRead : Type 0
+HeaderRead = Result ℕ Refusal
+
+-- a run, or the refusal
+abbrev pub RunRead : Type 0
+RunRead = Result good.Run Refusal
+
 -- a header is accepted iff it is the header of so many pieces; a run block, iff it is the block of that run, which is good
 abbrev pub HeaderSays : List ℕ → HeaderRead → Type 0
-HeaderSays l (Count n) = Pieces n × (l ≡ header_block n)
-HeaderSays l (NoHeader x) = Fault (header_checks l) (said x)
+HeaderSays l (Ok n) = Pieces n × (l ≡ header_block n)
+HeaderSays l (Err x) = Fault (header_checks l) (said x)
 
 pub record RunGood (l : List ℕ) (r : Run) : Type 0 where
   pub good : Passes (run_checks r)
   pub same : l ≡ run_block r
 
 abbrev pub RunSays : List ℕ → RunRead → Type 0
-RunSays l (Found r) = RunGood l (run_of r)
-RunSays l (NoRun x) = Fault (run_block_checks l) (said x)
+RunSays l (Ok r) = RunGood l (run_of r)
+RunSays l (Err x) = Fault (run_block_checks l) (said x)
 
 -- ---- writing: what is refused, and what is answered and left
 -- asked for with a count over 126: 3 at 5

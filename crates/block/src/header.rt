@@ -1,30 +1,27 @@
 // The header of a room.
 ghost use Rattle.block.specs.Reading.{HeaderSays, WriteHeaderSays};
 
-use crate::HeaderRead;
 use crate::kind::{Kind, check_kind};
 use crate::layout::{EDITION, MOST, NAME};
-use refusal::{Checked, Refusal};
+use refusal::Refusal;
 use seal::{SIZE, write_parts};
 
-pub fn read_header(block: &[u8]) -> HeaderRead
+pub fn read_header(block: &[u8]) -> Result<u32, Refusal>
     ensures { HeaderSays block.now result }
 {
-    match check_kind(block, Kind::Header) {
-        Checked::Refused(x) => HeaderRead::NoHeader(x),
-        Checked::Good => HeaderRead::Count(block[5] as u32),
-    }
+    check_kind(block, Kind::Header)?;
+    Ok(block[5] as u32)
 }
 
 #[tactic(auto, unfolding(crate::specs::Reading::header_asked))]
-pub fn write_header(pieces: u32, block: &mut [u8]) -> Checked
+pub fn write_header(pieces: u32, block: &mut [u8]) -> Result<(), Refusal>
     ensures { WriteHeaderSays pieces block.old block.new result }
 {
     if block.len() != SIZE {
-        return Checked::Refused(Refusal::Length);
+        return Err(Refusal::Length);
     }
     if MOST < pieces as usize {
-        return Checked::Refused(Refusal::Kind(5));
+        return Err(Refusal::Kind(5));
     }
     let front = [NAME[0], NAME[1], NAME[2], NAME[3], EDITION, pieces as u8];
     write_parts(&front, &[], front.len(), block)

@@ -6,7 +6,7 @@ ghost use Rattle.seal.specs.Seal.{block_size, block_checks};
 ghost use Rattle.block.specs.Reading.{Misspelt, header_bytes, run_bytes, piece_bytes, bytes_of};
 
 use crate::layout::{EDITION, MOST, PIECE, RUN, letter};
-use refusal::{Checked, Refusal};
+use refusal::Refusal;
 use seal::{check_block, check_unnamed};
 
 #[derive(Clone, Copy)]
@@ -32,61 +32,61 @@ fn first_letter(block: &[u8]) -> usize
 }
 
 // The bytes of a header, by rising offset.
-fn check_header_bytes(block: &[u8]) -> Checked
+fn check_header_bytes(block: &[u8]) -> Result<(), Refusal>
     requires { length block.now ≡ block_size }
     ensures { Finds (header_bytes block.now) result }
 {
     let at = first_letter(block);
     if at < 4 {
-        return Checked::Refused(Refusal::Kind(at));
+        return Err(Refusal::Kind(at));
     }
     let edition = block[4];
     if edition != EDITION {
-        return Checked::Refused(Refusal::Kind(4));
+        return Err(Refusal::Kind(4));
     }
     let pieces = block[5] as usize;
     if MOST < pieces {
-        return Checked::Refused(Refusal::Kind(5));
+        return Err(Refusal::Kind(5));
     }
     check_unnamed(block, 6)
 }
 
 // The bytes of a run block that are no numbers, by rising offset.
-fn check_run_bytes(block: &[u8]) -> Checked
+fn check_run_bytes(block: &[u8]) -> Result<(), Refusal>
     requires { length block.now ≡ block_size }
     ensures { Finds (run_bytes block.now) result }
 {
     let kind = block[0];
     if kind != RUN {
-        return Checked::Refused(Refusal::Kind(0));
+        return Err(Refusal::Kind(0));
     }
     let second = block[1];
     if second != 0 {
-        return Checked::Refused(Refusal::Kind(1));
+        return Err(Refusal::Kind(1));
     }
     check_unnamed(block, 16)
 }
 
 // The bytes of a piece block that are no numbers: kind, corner count, unnamed bytes.
-fn check_piece_bytes(block: &[u8]) -> Checked
+fn check_piece_bytes(block: &[u8]) -> Result<(), Refusal>
     requires { length block.now ≡ block_size }
     ensures { Finds (piece_bytes block.now) result }
 {
     let kind = block[0];
     if kind != PIECE {
-        return Checked::Refused(Refusal::Kind(0));
+        return Err(Refusal::Kind(0));
     }
     let count = block[1] as usize;
     if count < 3 {
-        return Checked::Refused(Refusal::Corners);
+        return Err(Refusal::Corners);
     }
     if 64 < count {
-        return Checked::Refused(Refusal::Corners);
+        return Err(Refusal::Corners);
     }
     check_unnamed(block, 12 + 4 * count)
 }
 
-fn check_bytes(block: &[u8], kind: Kind) -> Checked
+fn check_bytes(block: &[u8], kind: Kind) -> Result<(), Refusal>
     requires { length block.now ≡ block_size }
     ensures { Finds (bytes_of kind block.now) result }
 {
@@ -97,11 +97,9 @@ fn check_bytes(block: &[u8], kind: Kind) -> Checked
     }
 }
 
-pub fn check_kind(block: &[u8], kind: Kind) -> Checked
+pub fn check_kind(block: &[u8], kind: Kind) -> Result<(), Refusal>
     ensures { Finds (block_checks block.now ++ bytes_of kind block.now) result }
 {
-    match check_block(block) {
-        Checked::Refused(x) => Checked::Refused(x),
-        Checked::Good => check_bytes(block, kind),
-    }
+    check_block(block)?;
+    check_bytes(block, kind)
 }

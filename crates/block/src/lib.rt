@@ -7,22 +7,7 @@ mod kind;
 mod layout;
 mod runs;
 
-use good::Run;
 pub use header::{read_header, write_header};
 pub use kind::{Kind, check_kind};
 pub use layout::{MOST, PIECE};
-use refusal::Refusal;
 pub use runs::{read_run, write_run, write_run_body};
-
-// A header's piece count.
-#[derive(Clone, Copy)]
-pub enum HeaderRead {
-    Count(u32),
-    NoHeader(Refusal),
-}
-
-#[derive(Clone, Copy)]
-pub enum RunRead {
-    Found(Run),
-    NoRun(Refusal),
-}

@@ -5,12 +5,11 @@ ghost use Rattle.seal.specs.Seal.{block_size};
 ghost use Rattle.block.specs.Reading.{RunSays, WriteRunBodySays, WriteRunSays};
 ghost use Rattle.block.specs.Scan.{RunAt};
 
-use crate::RunRead;
 use crate::kind::{Kind, check_kind};
 use crate::layout::{RUN, RUN_BODY};
 use good::{Run, check_run};
 use pair::{read_pairs, write_pairs};
-use refusal::{Checked, Refusal};
+use refusal::Refusal;
 use seal::{SIZE, write_parts};
 
 // The numbers where a run's stand; its ticks are unsigned.
@@ -19,7 +18,7 @@ fn run_at(block: &[u8]) -> Run
     ensures { RunAt block.now result }
 {
     let mut numbers = [0i32; 6];
-    read_pairs(&block[2..14], &mut numbers);
+    read_pairs(&block[2..14], &mut numbers).unwrap();
     let low = block[14] as u32;
     let high = block[15] as u32;
     Run {
@@ -33,48 +32,36 @@ fn run_at(block: &[u8]) -> Run
     }
 }
 
-pub fn read_run(block: &[u8]) -> RunRead
+pub fn read_run(block: &[u8]) -> Result<Run, Refusal>
     ensures { RunSays block.now result }
 {
-    match check_kind(block, Kind::Run) {
-        Checked::Refused(x) => RunRead::NoRun(x),
-        Checked::Good => {
-            let run = run_at(block);
-            match check_run(run) {
-                Checked::Refused(x) => RunRead::NoRun(x),
-                Checked::Good => RunRead::Found(run),
-            }
-        }
-    }
+    check_kind(block, Kind::Run)?;
+    let run = run_at(block);
+    check_run(run)?;
+    Ok(run)
 }
 
 // The run block's bytes 2 to 15, for whoever has a run among other bytes.
-pub fn write_run_body(run: Run, bytes: &mut [u8]) -> Checked
+pub fn write_run_body(run: Run, bytes: &mut [u8]) -> Result<(), Refusal>
     ensures { WriteRunBodySays (run_of run) bytes.old bytes.new result }
 {
     if bytes.len() != RUN_BODY {
-        return Checked::Refused(Refusal::Length);
+        return Err(Refusal::Length);
     }
-    match check_run(run) {
-        Checked::Refused(x) => Checked::Refused(x),
-        Checked::Good => {
-            let ticks = run.ticks as i32;
-            let numbers = [run.x, run.y, run.z, run.vx, run.vy, run.vz, ticks];
-            write_pairs(&numbers, bytes)
-        }
-    }
+    check_run(run)?;
+    let ticks = run.ticks as i32;
+    let numbers = [run.x, run.y, run.z, run.vx, run.vy, run.vz, ticks];
+    write_pairs(&numbers, bytes)
 }
 
-pub fn write_run(run: Run, block: &mut [u8]) -> Checked
+pub fn write_run(run: Run, block: &mut [u8]) -> Result<(), Refusal>
     ensures { WriteRunSays (run_of run) block.old block.new result }
 {
     if block.len() != SIZE {
-        return Checked::Refused(Refusal::Length);
+        return Err(Refusal::Length);
     }
     let mut front = [0u8; 16];
     front[0] = RUN;
-    match write_run_body(run, &mut front[2..16]) {
-        Checked::Refused(x) => Checked::Refused(x),
-        Checked::Good => write_parts(&front, &[], front.len(), block),
-    }
+    write_run_body(run, &mut front[2..16])?;
+    write_parts(&front, &[], front.len(), block)
 }

@@ -1,4 +1,5 @@
 -- From a slot looked at, or written, to what asking says. Assumes nothing.
+use Rattle.std.specs.Prelude.{Some, None}
 use mathlib.Core.Path.{◌≡◌, refl, sym, ap, subst, ◌∙◌}
 use mathlib.Core.Logic.{inr}
 use mathlib.Core.List.{List, ◌++◌}
@@ -14,8 +15,7 @@ use Rattle.refusal.specs.declared.Refusal as told
 use Rattle.seal.specs.Seal.{byte, sum, block_of, block_at}
 use Rattle.book.specs.declared.Asked.{Asked}
 use Rattle.book.specs.declared.Asked.TheVariants.{Remembered, Worked, Refused}
-use Rattle.book.specs.declared.slot.Memory.{Memory}
-use Rattle.book.specs.declared.slot.Memory.TheVariants.{Code, Nothing}
+--TYPE use Rattle.book.specs.declared.slot.Memory.{Memory}
 use Rattle.book.specs.Entry.{Slots, slots, key_length, four, entry_of, home, entry, Hit, put}
 use Rattle.book.specs.Ask.{ask_checks, AskSays}
 use Rattle.book.specs.Steps.{first_bytes, Begun, SoundAfter, Recalls, Keeps, Works}
@@ -66,10 +66,10 @@ module _ (book front : List ℕ) (r : Run) (k : Piece) (end i : ℕ) (q : Asking
         ∙ ap (λ (z : List ℕ). put book (home book r k) z) (entry_is c)
 
   module _ (x : Memory) (f : Recalls (block_at book i) (first_bytes front end) r x) where
-    pub hits : (c : ℕ) → x ≡ Code c → Passes (piece_checks k) → AskSays book book r k (Remembered c)
+    pub hits : (c : ℕ) → x ≡ Some c → Passes (piece_checks k) → AskSays book book r k (Remembered c)
     hits c g p = record { passes = all_pass p; hit = to_hit p c (subst (Recalls (block_at book i) (first_bytes front end) r) g f); same = refl }
 
-    pub works : (after : List ℕ) (a : Asked) → x ≡ Nothing → Works book after i (first_bytes front end) r k a → AskSays book after r k a
+    pub works : (after : List ℕ) (a : Asked) → x ≡ None → Works book after i (first_bytes front end) r k a → AskSays book after r k a
     unfolding ask_checks
     works after (Remembered c) g w = absurd w
     works after (Worked c) g w =

@@ -1,4 +1,5 @@
 -- The bytes of an entry, one by one, and the code of a sound slot. Assumes nothing.
+use Rattle.std.specs.Prelude.{Some, None}
 use mathlib.Core.Path.{◌≡◌, sym, ap, ◌∙◌}
 use mathlib.Core.Logic.{⊎_elim}
 use mathlib.Core.List.{List, ◌++◌}
@@ -10,7 +11,6 @@ use Rattle.rules.specs.Reach.{Run}
 use Rattle.seal.specs.Seal.{byte, block_of}
 use Rattle.seal.proofs.Bytes.{filled_length, block_at}
 use Rattle.rules.specs.Verdict.{NONE}
-use Rattle.book.specs.declared.slot.Memory.TheVariants.{Code, Nothing}
 use Rattle.book.specs.Entry.{code_at, code_end, four, Possible}
 use Rattle.book.specs.Steps.{CodeBytes, Cut, first_bytes, SoundAfter, Recalls}
 
@@ -55,11 +55,11 @@ module _ (slot front : List ℕ) (r : Run) (n : length front ≡ code_at) where
     its_code : (c : ℕ) → SoundAfter slot front r c → c ≡ code
     its_code c s = sound_code c s ∙ sym e
 
-    pub beyond : (code ≡ NONE → ⊥) → 256 * r.ticks < code → Recalls slot front r Nothing
+    pub beyond : (code ≡ NONE → ⊥) → 256 * r.ticks < code → Recalls slot front r None
     beyond u h c s = let q = its_code c s in ⊎_elim (λ g. u (sym q ∙ g)) (λ g. omega arith) s.possible
 
-    pub other : (slot ≡ block_of (front ++ four code) → ⊥) → Recalls slot front r Nothing
+    pub other : (slot ≡ block_of (front ++ four code) → ⊥) → Recalls slot front r None
     other u c s = u (s.same ∙ ap (λ (m : ℕ). block_of (front ++ four m)) (its_code c s))
 
-    pub sound : code < 4294967296 → Possible r.ticks code → slot ≡ block_of (front ++ four code) → Recalls slot front r (Code code)
+    pub sound : code < 4294967296 → Possible r.ticks code → slot ≡ block_of (front ++ four code) → Recalls slot front r (Some code)
     sound f p q = record { fits = f; possible = p; same = q }

@@ -1,5 +1,5 @@
 -- What the steps of asking lay out and find. Assumes nothing.
-use Rattle.std.specs.Prelude.{◌≡◌, List, ◌++◌, ℕ, ◌+◌, ◌*◌, ◌≤◌, ◌<◌, length, take}
+use Rattle.std.specs.Prelude.{◌≡◌, List, ◌++◌, ℕ, ◌+◌, ◌*◌, ◌≤◌, ◌<◌, length, take, Option, Some, None, Result, Ok, Err}
 use Rattle.rules.specs.Reach.{Run, Piece}
 use Rattle.rules.specs.Refusal.{Passes, Fault}
 use Rattle.rules.specs.Good.{run_checks, piece_checks}
@@ -7,9 +7,8 @@ use Rattle.rules.specs.Verdict.{Verdict, verdict_checks, answer}
 use Rattle.refusal.specs.Said.{said}
 use Rattle.seal.specs.Seal.{byte, filled, block_of}
 use Rattle.book.specs.declared.Asked.{Asked}
-use Rattle.book.specs.declared.Asked.TheVariants.{Remembered, Worked, Refused}
-use Rattle.book.specs.declared.slot.Memory.{Memory}
-use Rattle.book.specs.declared.slot.Memory.TheVariants.{Code, Nothing}
+use Rattle.book.specs.declared.Asked.TheVariants.{Remembered, Worked}
+use Rattle.refusal.specs.declared.Refusal.{Refusal}
 use Rattle.book.specs.Entry.{code_at, question, four, opening, Possible, put}
 
 -- the first bytes of an entry before `end`, and zeros from there to the verdict
@@ -42,9 +41,9 @@ pub record SoundAfter (slot first : List ℕ) (r : Run) (c : ℕ) : Type 0 where
   pub possible : Possible r.ticks c
   pub same : slot ≡ block_of (first ++ four c)
 
-abbrev pub Recalls : List ℕ → List ℕ → Run → Memory → Type 0
-Recalls slot first r (Code c) = SoundAfter slot first r c
-Recalls slot first r Nothing = (c : ℕ) → SoundAfter slot first r c → ⊥
+abbrev pub Recalls : List ℕ → List ℕ → Run → Option ℕ → Type 0
+Recalls slot first r (Some c) = SoundAfter slot first r c
+Recalls slot first r None = (c : ℕ) → SoundAfter slot first r c → ⊥
 
 -- slot i becomes the block of these first bytes and a code
 abbrev pub Keeps : List ℕ → List ℕ → ℕ → List ℕ → ℕ → Type 0
@@ -57,7 +56,7 @@ pub record WorkedOut (book after : List ℕ) (i : ℕ) (first : List ℕ) (r : R
   pub verdict : Verdict r k (answer c)
   pub kept : Keeps book after i first c
 
-abbrev pub Works : List ℕ → List ℕ → ℕ → List ℕ → Run → Piece → Asked → Type 0
-Works book after i first r k (Remembered c) = ⊥
-Works book after i first r k (Worked c) = WorkedOut book after i first r k c
-Works book after i first r k (Refused x) = Fault (verdict_checks r k) (said x) × (after ≡ book)
+abbrev pub Works : List ℕ → List ℕ → ℕ → List ℕ → Run → Piece → Result Asked Refusal → Type 0
+Works book after i first r k (Ok (Remembered c)) = ⊥
+Works book after i first r k (Ok (Worked c)) = WorkedOut book after i first r k c
+Works book after i first r k (Err x) = Fault (verdict_checks r k) (said x) × (after ≡ book)

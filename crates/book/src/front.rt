@@ -8,7 +8,6 @@ ghost use Rattle.book.specs.Steps.{Layable, Begun};
 use block::write_run_body;
 use good::{Run, Slab};
 use piece_block::write_piece_body;
-use refusal::Checked;
 
 // Byte 0 of an entry.
 const KIND: u8 = 3;
@@ -29,10 +28,10 @@ pub(crate) fn lay(run: Run, slab: Slab, corners: &[i32], front: &mut [u8]) -> us
 {
     front[0] = KIND;
     front[1] = 0;
-    write_run_body(run, &mut front[2..PIECE]);
+    write_run_body(run, &mut front[2..PIECE]).unwrap();
     match write_piece_body(slab, corners, &mut front[PIECE..CODE]) {
-        Checked::Refused(_) => PIECE,
-        Checked::Good => PIECE + 11 + 2 * corners.len(),
+        Err(_) => PIECE,
+        Ok(()) => PIECE + 11 + 2 * corners.len(),
     }
 }
 

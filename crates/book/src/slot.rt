@@ -12,13 +12,6 @@ use good::Run;
 use piece::NONE;
 use seal::{SIZE, is_parts, write_parts};
 
-// What a slot remembers of a question.
-#[derive(Clone, Copy)]
-pub(crate) enum Memory {
-    Code(u32),
-    Nothing,
-}
-
 fn number_of(a: u8, b: u8, c: u8, d: u8) -> u32
     ensures { result ≡ a + 256 * b + 65536 * c + 16777216 * d }
 {
@@ -38,7 +31,7 @@ fn write_entry(first: &[u8], code: u32, slot: &mut [u8])
     ensures { slot.new ≡ block_of (filled code_at first.now ++ four code) }
 {
     let last = bytes_of(code);
-    write_parts(first, &last, CODE, slot);
+    write_parts(first, &last, CODE, slot).unwrap();
 }
 
 // Whether the slot is that entry, byte for byte.
@@ -50,24 +43,25 @@ fn is_entry(slot: &[u8], first: &[u8], code: u32) -> bool
     is_parts(first, &last, CODE, slot)
 }
 
-fn recall(slot: &[u8], front: &[u8], end: usize, run: Run) -> Memory
+// What a slot remembers of a question.
+fn recall(slot: &[u8], front: &[u8], end: usize, run: Run) -> Option<u32>
     requires { (length slot.now ≡ block_size) × (Cut front.now end × Ticks run.ticks) }
     ensures { Recalls slot.now (first_bytes front.now end) (run_of run) result }
 {
     let code = code_in(slot);
     if code != NONE {
         if 256 * run.ticks < code {
-            return Memory::Nothing;
+            return None;
         }
     }
     if is_entry(slot, &front[..end], code) {
-        Memory::Code(code)
+        Some(code)
     } else {
-        Memory::Nothing
+        None
     }
 }
 
-pub(crate) fn look(book: &[u8], at: usize, front: &[u8], end: usize, run: Run) -> Memory
+pub(crate) fn look(book: &[u8], at: usize, front: &[u8], end: usize, run: Run) -> Option<u32>
     requires { (block_size * suc at ≤ length book.now) × (Cut front.now end × Ticks run.ticks) }
     ensures { Recalls (block_at book.now at) (first_bytes front.now end) (run_of run) result }
 {

@@ -3,17 +3,18 @@ use crate::{Q, Score, coded, more, run, slab};
 use book::Asked;
 use good::Run;
 use piece::NONE;
+use refusal::Refusal;
 use std::io;
 
 // Another piece than Q with the same sum of bytes: its upper edge leans.
 const LEANING: [i32; 8] = [0, 0, 64, 0, 64, 63, 0, 65];
 
 // Worked out, a code; remembered, the same above 32 bits; or the refusal.
-fn answered(a: Asked) -> u64 {
+fn answered(a: Result<Asked, Refusal>) -> u64 {
     match a {
-        Asked::Worked(c) => c as u64,
-        Asked::Remembered(c) => c as u64 + REMEMBERED,
-        Asked::Refused(r) => coded(r),
+        Ok(Asked::Worked(c)) => c as u64,
+        Ok(Asked::Remembered(c)) => c as u64 + REMEMBERED,
+        Err(r) => coded(r),
     }
 }
 

@@ -1,14 +1,14 @@
 // OBJ files: a square in two spellings, and files that are refused, with the list as it was.
 use crate::{Score, coded, more, slab, three};
 use good::Slab;
-use obj::Outline;
+use refusal::Refusal;
 use std::io;
 
 // The corner count, or the refusal.
-fn outlined(o: Outline) -> u64 {
+fn outlined(o: Result<usize, Refusal>) -> u64 {
     match o {
-        Outline::Corners(n) => n as u64,
-        Outline::Refused(r) => coded(r),
+        Ok(n) => n as u64,
+        Err(r) => coded(r),
     }
 }
 

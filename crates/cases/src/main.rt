@@ -3,9 +3,9 @@
 #![tactic(auto)]
 
 use good::{Run, Slab};
-use grid::Taken;
-use piece::{Coded, NONE, Placed, Verdict};
-use refusal::{Checked, Refusal, row_of};
+use grid::NotTaken;
+use piece::{NONE, Spot};
+use refusal::{Refusal, Row};
 use std::io;
 
 mod books;
@@ -65,36 +65,36 @@ fn slab(vx: i32) -> Slab {
 }
 
 // A mark, or NONE for clear, or one less for a refusal.
-fn told(v: Verdict) -> u32 {
+fn told(v: Result<Option<u32>, Refusal>) -> u32 {
     match piece::coded(v) {
-        Coded::Code(c) => c,
-        Coded::Refused(_) => 0xFFFF_FFFE,
+        Ok(c) => c,
+        Err(_) => 0xFFFF_FFFE,
     }
 }
 
 // A refusal as number, a, b in one; no more than 8, 24 and 16 bits of them.
 fn coded(r: Refusal) -> u64 {
-    let row = row_of(r);
-    three(row.0, row.1, row.2)
+    let row = Row::from(r);
+    three(row.number, row.a, row.b)
 }
 
 fn three(n: usize, a: usize, b: usize) -> u64 {
     ((n % 256) * 1099511627776 + (a % 16777216) * 65536 + b % 65536) as u64
 }
 
-fn refused(c: Checked) -> u64 {
+fn refused(c: Result<(), Refusal>) -> u64 {
     match c {
-        Checked::Good => 0,
-        Checked::Refused(r) => coded(r),
+        Ok(()) => 0,
+        Err(r) => coded(r),
     }
 }
 
-fn where_is(p: Placed) -> u64 {
+fn where_is(p: Result<Spot, Refusal>) -> u64 {
     match p {
-        Placed::On => 2,
-        Placed::Inside => 1,
-        Placed::Outside => 0,
-        Placed::Refused(r) => coded(r),
+        Ok(Spot::On) => 2,
+        Ok(Spot::Inside) => 1,
+        Ok(Spot::Outside) => 0,
+        Err(r) => coded(r),
     }
 }
 
@@ -243,10 +243,10 @@ fn taken(
     below: f32,
 ) -> io::Result<Score> {
     let right = match grid::take(x) {
-        Taken::Grid(n) => (kind == 0) & (n == k),
-        Taken::OffGrid(w) => (kind == 1) & (w == below),
-        Taken::NotNumber => kind == 2,
-        Taken::Beyond => kind == 3,
+        Ok(n) => (kind == 0) & (n == k),
+        Err(NotTaken::OffGrid(w)) => (kind == 1) & (w == below),
+        Err(NotTaken::NotNumber) => kind == 2,
+        Err(NotTaken::Beyond) => kind == 3,
     };
     more(rt, s, name, right)
 }

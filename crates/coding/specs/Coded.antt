@@ -1,22 +1,17 @@
 -- One number for each answer of the library, and what a call promises by it. Each public function of the crate answers what a definition here makes of what it is
 -- given: by that equality nothing else meets its contract. Assumes nothing.
-use Rattle.std.specs.Prelude.{◌≡◌, ℕ, ◌+◌, ◌*◌, ◌%◌, ◌^◌}
+use Rattle.piece.specs.declared.spot.Spot.TheVariants.{On, Inside, Outside}
+use Rattle.std.specs.Prelude.{◌≡◌, ℕ, ◌+◌, ◌*◌, ◌%◌, ◌^◌, Result, Ok, Err}
 use Rattle.rules.specs.Refusal.{Refusal}
-use Rattle.refusal.specs.Said.{said, said_in}
-use Rattle.refusal.specs.declared.Checked.{Checked}
-use Rattle.refusal.specs.declared.Checked.TheVariants as checked
-use Rattle.piece.specs.declared.Placed.{Placed}
-use Rattle.piece.specs.declared.Placed.TheVariants as placed
-use Rattle.piece.specs.declared.motion.Verdict.{Verdict}
-use Rattle.piece.specs.declared.motion.Coded as piece
-use Rattle.piece.specs.declared.motion.Coded.TheVariants as verdict
+use Rattle.refusal.specs.declared.Refusal as declared
+use Rattle.refusal.specs.Said.{said, Checked}
+use Rattle.piece.specs.Place.{Placed}
+use Rattle.piece.specs.Tells.{Verdict}
+use Rattle.piece.specs.Tells as piece
 use Rattle.piece.specs.Tells.{coded_of}
-use Rattle.block.specs.declared.HeaderRead.{HeaderRead}
-use Rattle.block.specs.declared.HeaderRead.TheVariants as header
-use Rattle.room.specs.declared.Counted.{Counted}
-use Rattle.room.specs.declared.Counted.TheVariants as counted
-use Rattle.obj.specs.declared.Outline.{Outline}
-use Rattle.obj.specs.declared.Outline.TheVariants as outline
+use Rattle.block.specs.Reading.{HeaderRead}
+use Rattle.room.specs.Image.{Counted, room_said}
+use Rattle.obj.specs.File.{Outline}
 use Rattle.book.specs.declared.Asked.{Asked}
 use Rattle.book.specs.declared.Asked.TheVariants as asked
 
@@ -44,25 +39,25 @@ code_of (refusal s) = refusal_code s
 
 -- ---- what each answer says, and its code
 abbrev pub checked_means : Checked → Meaning
-checked_means checked.Good = value 0
-checked_means (checked.Refused x) = refusal (said x)
+checked_means (Ok _) = value 0
+checked_means (Err x) = refusal (said x)
 
 abbrev pub checked_code : Checked → ℕ
 checked_code r = code_of (checked_means r)
 
 abbrev pub placed_means : Placed → Meaning
-placed_means placed.Outside = value 0
-placed_means placed.Inside = value 1
-placed_means placed.On = value 2
-placed_means (placed.Refused x) = refusal (said x)
+placed_means (Ok Outside) = value 0
+placed_means (Ok Inside) = value 1
+placed_means (Ok On) = value 2
+placed_means (Err x) = refusal (said x)
 
 abbrev pub placed_code : Placed → ℕ
 placed_code r = code_of (placed_means r)
 
 -- the code of a verdict
 abbrev pub coded_means : piece.Coded → Meaning
-coded_means (verdict.Code c) = value c
-coded_means (verdict.Refused x) = refusal (said x)
+coded_means (Ok c) = value c
+coded_means (Err x) = refusal (said x)
 
 abbrev pub verdict_means : Verdict → Meaning
 verdict_means r = coded_means (coded_of r)
@@ -72,33 +67,33 @@ verdict_code r = code_of (verdict_means r)
 
 -- the piece count
 abbrev pub header_means : HeaderRead → Meaning
-header_means (header.Count n) = value n
-header_means (header.NoHeader x) = refusal (said x)
+header_means (Ok n) = value n
+header_means (Err x) = refusal (said x)
 
 abbrev pub header_code : HeaderRead → ℕ
 header_code r = code_of (header_means r)
 
 -- the piece count, or a refusal with its block
 abbrev pub counted_means : Counted → Meaning
-counted_means (counted.Count n) = value n
-counted_means (counted.Refused x b) = refusal (said_in x b)
+counted_means (Ok n) = value n
+counted_means (Err r) = refusal (room_said r)
 
 abbrev pub counted_code : Counted → ℕ
 counted_code r = code_of (counted_means r)
 
 -- the code of an entry
-abbrev pub asked_means : Asked → Meaning
-asked_means (asked.Remembered c) = remembered c
-asked_means (asked.Worked c) = value c
-asked_means (asked.Refused x) = refusal (said x)
+abbrev pub asked_means : Result Asked declared.Refusal → Meaning
+asked_means (Ok (asked.Remembered c)) = remembered c
+asked_means (Ok (asked.Worked c)) = value c
+asked_means (Err x) = refusal (said x)
 
-abbrev pub asked_code : Asked → ℕ
+abbrev pub asked_code : Result Asked declared.Refusal → ℕ
 asked_code r = code_of (asked_means r)
 
 -- the corner count
 abbrev pub outline_means : Outline → Meaning
-outline_means (outline.Corners n) = value n
-outline_means (outline.Refused x) = refusal (said x)
+outline_means (Ok n) = value n
+outline_means (Err x) = refusal (said x)
 
 abbrev pub outline_code : Outline → ℕ
 outline_code r = code_of (outline_means r)

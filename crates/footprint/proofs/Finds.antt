@@ -13,7 +13,7 @@ use Rattle.rules.specs.Refusal.{First, Passes, Fault, refuse}
 use Rattle.rules.specs.Good.{Same, Folds, Meet, FirstMeet, Sized, sized_check, shape_checks, footprint_checks}
 use Rattle.rules.proofs.Ring.{next_one}
 use Rattle.decide.proofs.Share.{fold_ends, end_folds}
-use Rattle.refusal.specs.declared.Checked.{Checked}
+use Rattle.refusal.specs.Said.{Checked}
 use Rattle.refusal.specs.Said.{Finds}
 use Rattle.refusal.proofs.Finds.{finds_after, finds_past}
 use Rattle.footprint.specs.Shape.{Stray, back, Bend, Drawing}

@@ -8,7 +8,7 @@ use Rattle.whole.proofs.Decide.{decides_one}
 use Rattle.rules.specs.Reach.{Reach}
 use Rattle.rules.specs.Good.{Sized, footprint_checks}
 use Rattle.rules.proofs.Good.{definite_footprint}
-use Rattle.refusal.specs.declared.Checked.{Checked}
+use Rattle.refusal.specs.Said.{Checked}
 use Rattle.refusal.specs.Said.{Finds}
 use Rattle.refusal.proofs.Unique.{finds_one}
 

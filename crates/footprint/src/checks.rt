@@ -10,7 +10,7 @@ ghost use Rattle.footprint.specs.Shape.{HoldsRing, Corner, Stray, first_hit, Dra
 use crate::extent::{apart, fill};
 use crate::number::reaches;
 use crate::ring::{around, aside, bends, equal, wedge};
-use refusal::{Checked, Refusal};
+use refusal::Refusal;
 
 // What one pass over the corners finds: a number out of reach, or the first corner that equals the next, the first with a fold (the corners' count where there is none), and twice the area.
 #[derive(Clone, Copy)]
@@ -174,46 +174,46 @@ fn first_meet(l: &[i32], n: usize) -> Pair
 }
 
 // What a drawing says, and the edges' meetings.
-fn settle(l: &[i32], n: usize, same: usize, fold: usize, area: i64) -> Checked
+fn settle(l: &[i32], n: usize, same: usize, fold: usize, area: i64) -> Result<(), Refusal>
     requires { HoldsRing l.now n × Drawing l.now same fold area }
     ensures { Finds (shape_checks l.now) result }
 {
     if same < n {
-        return Checked::Refused(Refusal::Same(same));
+        return Err(Refusal::Same(same));
     }
     if fold < n {
-        return Checked::Refused(Refusal::Fold(fold));
+        return Err(Refusal::Fold(fold));
     }
     match first_meet(l, n) {
-        Pair::Edges(i, j) => Checked::Refused(Refusal::Meet(i, j)),
+        Pair::Edges(i, j) => Err(Refusal::Meet(i, j)),
         Pair::NoPair => {
             if 0 < area {
-                Checked::Good
+                Ok(())
             } else {
-                Checked::Refused(Refusal::Clockwise)
+                Err(Refusal::Clockwise)
             }
         }
     }
 }
 
 // The checks from the reach of the corners on.
-fn check_shape(l: &[i32]) -> Checked
+fn check_shape(l: &[i32]) -> Result<(), Refusal>
     requires { Sized l.now }
     ensures { Finds (shape_checks l.now) result }
 {
     let n = l.len() / 2;
     match draw(l, n) {
-        Outline::Beyond(j) => Checked::Refused(Refusal::Reach(12 + 2 * j)),
+        Outline::Beyond(j) => Err(Refusal::Reach(12 + 2 * j)),
         Outline::Drawn(same, fold, area) => settle(l, n, same, fold, area),
     }
 }
 
 // Whether a footprint is good: the corners' count, their reach, and their shape.
-pub fn check_footprint(l: &[i32]) -> Checked
+pub fn check_footprint(l: &[i32]) -> Result<(), Refusal>
     ensures { Finds (footprint_checks l.now) result }
 {
     if !sized(l) {
-        return Checked::Refused(Refusal::Corners);
+        return Err(Refusal::Corners);
     }
     check_shape(l)
 }

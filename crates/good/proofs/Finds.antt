@@ -17,7 +17,7 @@ use Rattle.rules.proofs.Checks.{first_found}
 use Rattle.rules.specs.Good.{RunNumber, run_checks, BandNumber, Sized, sized_check, band_check, shape_checks, footprint_checks, piece_checks}
 use Rattle.rules.specs.Reach.{Piece, Run}
 use Rattle.rules.specs.Place.{PointNumber, place_checks}
-use Rattle.refusal.specs.declared.Checked.{Checked}
+use Rattle.refusal.specs.Said.{Checked}
 use Rattle.refusal.specs.Said.{Finds}
 use Rattle.refusal.proofs.Finds.{finds_after}
 use Rattle.good.specs.declared.Slab.{Slab}

@@ -6,7 +6,7 @@ use Rattle.rules.specs.Good.{run_checks, piece_checks}
 use Rattle.rules.specs.Place.{place_checks}
 use Rattle.rules.proofs.Good.{definite_run, definite_piece, definite_place}
 use Rattle.refusal.specs.Said.{Finds}
-use Rattle.refusal.specs.declared.Checked.{Checked}
+use Rattle.refusal.specs.Said.{Checked}
 use Rattle.refusal.proofs.Unique.{finds_one}
 use Rattle.good.specs.declared.Run.{Run}
 use Rattle.good.specs.declared.Slab.{Slab}

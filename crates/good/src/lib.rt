@@ -8,7 +8,7 @@ ghost use Rattle.refusal.specs.Said.{Finds};
 ghost use Rattle.good.specs.Numbers.{run_of, piece_of, pt};
 
 use footprint::{check_footprint, sized};
-use refusal::{Checked, Refusal};
+use refusal::Refusal;
 
 mod reach;
 
@@ -36,40 +36,40 @@ pub struct Slab {
 
 // Whether a run is good.
 #[tactic(auto, using(crate::proofs::Finds::run_refused))]
-pub fn check_run(run: Run) -> Checked
+pub fn check_run(run: Run) -> Result<(), Refusal>
     ensures { Finds (run_checks (run_of run)) result }
 {
     let k = reach::run_fault(run);
     if k < 7 {
-        Checked::Refused(Refusal::Reach(2 + 2 * k))
+        Err(Refusal::Reach(2 + 2 * k))
     } else {
-        Checked::Good
+        Ok(())
     }
 }
 
 // Whether a piece is good: the corners' count, the band's numbers, and then the footprint.
 #[tactic(auto, using(crate::proofs::Finds::piece_refused))]
-pub fn check_piece(slab: Slab, corners: &[i32]) -> Checked
+pub fn check_piece(slab: Slab, corners: &[i32]) -> Result<(), Refusal>
     ensures { Finds (piece_checks (piece_of slab corners.now)) result }
 {
     if !sized(corners) {
-        return Checked::Refused(Refusal::Corners);
+        return Err(Refusal::Corners);
     }
     let k = reach::slab_fault(slab);
     if k < 5 {
-        return Checked::Refused(Refusal::Reach(2 + 2 * k));
+        return Err(Refusal::Reach(2 + 2 * k));
     }
     check_footprint(corners)
 }
 
 // The checks before a place is answered: the point's numbers, then the footprint.
 #[tactic(auto, using(crate::proofs::Finds::place_refused))]
-pub fn check_place(x: i32, y: i32, l: &[i32]) -> Checked
+pub fn check_place(x: i32, y: i32, l: &[i32]) -> Result<(), Refusal>
     ensures { Finds (place_checks (pt x y) l.now) result }
 {
     let k = reach::point_fault(x, y);
     if k < 2 {
-        return Checked::Refused(Refusal::Reach(2 + 2 * k));
+        return Err(Refusal::Reach(2 + 2 * k));
     }
     check_footprint(l)
 }

@@ -3,10 +3,9 @@
 
 ghost use Rattle.grid.specs.Number.{Scaled, Bounded, Floored, Answer};
 
-// The answer of one number: its grid number; the grid value at or below it; not a number; out of reach.
-#[derive(Clone, Copy)]
-pub enum Taken {
-    Grid(i32),
+// What keeps a number from the grid: off it, with the grid value at or below; not a number; out of reach.
+#[derive(Clone, Copy, PartialEq)]
+pub enum NotTaken {
     OffGrid(f32),
     NotNumber,
     Beyond,
@@ -30,24 +29,24 @@ fn floor(scaled: f32) -> i32
     if back > scaled { next - 1 } else { next }
 }
 
-// One number.
-pub fn take(x: f32) -> Taken
+// The grid number of one number.
+pub fn take(x: f32) -> Result<i32, NotTaken>
     ensures { Answer x result }
 {
     if x != x {
-        return Taken::NotNumber;
+        return Err(NotTaken::NotNumber);
     }
     if x < -1024.0 {
-        return Taken::Beyond;
+        return Err(NotTaken::Beyond);
     }
     if x > 1024.0 {
-        return Taken::Beyond;
+        return Err(NotTaken::Beyond);
     }
     let scaled = sixteenfold(x);
     let k = floor(scaled);
     let back = k as f32;
     if back == scaled {
-        return Taken::Grid(k);
+        return Ok(k);
     }
-    Taken::OffGrid(back * 0.0625)
+    Err(NotTaken::OffGrid(back * 0.0625))
 }

@@ -1,4 +1,5 @@
 -- The corners of a footprint one after the other: what a list holds after each, and what the checks find. Assumes nothing.
+use Rattle.std.specs.Prelude.{Ok, Err}
 use mathlib.Core.Path.{◌≡◌, refl, sym, subst, ◌∙◌}
 use mathlib.Core.Logic.{inl, inr}
 use mathlib.Core.List.{List}
@@ -17,15 +18,13 @@ use Rattle.rules.proofs.Checks.{in_turn_pass}
 use Rattle.refusal.specs.Said.{said, Finds}
 use Rattle.refusal.specs.declared.Refusal.{Refusal}
 use Rattle.refusal.specs.declared.Refusal.TheVariants.{Corners as Corners', Short}
-use Rattle.refusal.specs.declared.Checked.TheVariants.{Good, Refused}
-use Rattle.grid.specs.declared.Taken.TheVariants.{Grid}
 use Rattle.intake.specs.declared.Corner.{Corner}
 use Rattle.grid.specs.Number.{Answer}
 use Rattle.intake.specs.Footprint.{corner_at, corners_checks, intake_checks, HoldsCorners, Later}
 
 -- a number that is taken as k is taken as what equals k
-pub taken : (v : Float) {j k : ℤ} → j ≡ k → Answer v (Grid k) → Answer v (Grid j)
-taken v e = subst (λ (z : ℤ). Answer v (Grid z)) (sym e)
+pub taken : (v : Float) {j k : ℤ} → j ≡ k → Answer v (Ok k) → Answer v (Ok j)
+taken v e = subst (λ (z : ℤ). Answer v (Ok z)) (sym e)
 
 -- ---- one more corner into a list
 module _ (cs : List Corner) (i : ℕ) (l : List ℤ) (x y : ℤ) where
@@ -46,13 +45,13 @@ module _ (cs : List Corner) (i : ℕ) (l : List ℤ) (x y : ℤ) where
     y_there : get_or later (2 * i + 1) (pos 0) ≡ y
     y_there = get_or-set_same first (2 * i + 1) y (pos 0) (simp length-set room)
 
-    pub hold_more : HoldsCorners cs i l → Answer (corner_at cs i).x (Grid x) → Answer (corner_at cs i).y (Grid y) → HoldsCorners cs (i + 1) later
+    pub hold_more : HoldsCorners cs i l → Answer (corner_at cs i).x (Ok x) → Answer (corner_at cs i).y (Ok y) → HoldsCorners cs (i + 1) later
     hold_more f a b =
         record {
-          x = below_more (λ k. Answer (corner_at cs k).x (Grid (get_or later (2 * k) (pos 0)))) i
+          x = below_more (λ k. Answer (corner_at cs k).x (Ok (get_or later (2 * k) (pos 0)))) i
               (λ k h. taken (corner_at cs k).x (kept (2 * k) (omega arith)) (f.x k h))
               (taken (corner_at cs i).x x_there a);
-          y = below_more (λ k. Answer (corner_at cs k).y (Grid (get_or later (2 * k + 1) (pos 0)))) i
+          y = below_more (λ k. Answer (corner_at cs k).y (Ok (get_or later (2 * k + 1) (pos 0)))) i
               (λ k h. taken (corner_at cs k).y (kept (2 * k + 1) (omega arith)) (f.y k h))
               (taken (corner_at cs i).y y_there b);
         }
@@ -63,19 +62,19 @@ holds_pass cs n l h = in_turn_pass _ n (λ i k. ((_, h.x i k), ((_, h.y i k), tt
 
 -- ---- the checks of an intake, one after the other
 module _ (cs : List Corner) (n size : ℕ) where
-  pub beyond_count : (Corners n → ⊥) → Finds (intake_checks cs n size) (Refused Corners')
+  pub beyond_count : (Corners n → ⊥) → Finds (intake_checks cs n size) (Err Corners')
   unfolding intake_checks
   beyond_count f = inl (f, refl)
 
-  pub too_short : Corners n → (2 * n ≤ size → ⊥) → Finds (intake_checks cs n size) (Refused Short)
+  pub too_short : Corners n → (2 * n ≤ size → ⊥) → Finds (intake_checks cs n size) (Err Short)
   unfolding intake_checks
   too_short c f = inr (c, inl (f, refl))
 
-  pub fault_in : Corners n → 2 * n ≤ size → (r : Refusal) → Fault (corners_checks cs n) (said r) → Finds (intake_checks cs n size) (Refused r)
+  pub fault_in : Corners n → 2 * n ≤ size → (r : Refusal) → Fault (corners_checks cs n) (said r) → Finds (intake_checks cs n size) (Err r)
   unfolding intake_checks
   fault_in c l r f = inr (c, inr (l, f))
 
-  pub all_good : Corners n → 2 * n ≤ size → (l : List ℤ) → HoldsCorners cs n l → Finds (intake_checks cs n size) Good
+  pub all_good : Corners n → 2 * n ≤ size → (l : List ℤ) → HoldsCorners cs n l → Finds (intake_checks cs n size) (Ok tt)
   unfolding intake_checks
   all_good c l h k = (c, (l, holds_pass cs n h k))
 
@@ -96,7 +95,7 @@ module _ (cs : List Corner) (n : ℕ) (l before : List ℤ) (all : length l ≡ 
   holds_at : (k : ℕ) → k < 2 * n → get_or (fronted front before) k (pos 0) ≡ get_or l k (pos 0)
   holds_at k h = laid.first k (omega (arith, long)) ∙ get_or-take (2 * n) l k (pos 0) h
 
-  pub put_later : HoldsCorners cs n l → Later cs n before Good (fronted front before)
+  pub put_later : HoldsCorners cs n l → Later cs n before (Ok tt) (fronted front before)
   put_later h = (
     record {
       x = λ i lt. taken (corner_at cs i).x (holds_at (2 * i) (omega arith)) (h.x i lt);

@@ -4,8 +4,8 @@
 ghost use Rattle.std.specs.Prelude.{◌≤◌};
 ghost use Rattle.intake.specs.Footprint.{Put, Refuses, Paired, Gathered, Intake};
 
-use grid::{Taken, take};
-use refusal::{Checked, Refusal};
+use grid::{NotTaken, take};
+use refusal::Refusal;
 
 // A corner as exported.
 #[derive(Clone, Copy)]
@@ -15,12 +15,12 @@ pub struct Corner {
 }
 
 // The refusal of a number that is not taken: not a number, out of reach, or else off grid. A grid number is not asked about.
-fn refused(answer: Taken, corner: usize, axis: usize) -> Refusal
+fn refused(answer: Result<i32, NotTaken>, corner: usize, axis: usize) -> Refusal
     ensures { Refuses answer corner axis result }
 {
     match answer {
-        Taken::NotNumber => Refusal::NotNumber(corner, axis),
-        Taken::Beyond => Refusal::Beyond(corner, axis),
+        Err(NotTaken::NotNumber) => Refusal::NotNumber(corner, axis),
+        Err(NotTaken::Beyond) => Refusal::Beyond(corner, axis),
         _ => Refusal::OffGrid(corner, axis),
     }
 }
@@ -37,11 +37,11 @@ fn pair(corner: Corner, i: usize) -> Numbers
     ensures { Paired corner i result }
 {
     let first = take(corner.x);
-    let Taken::Grid(x) = first else {
+    let Ok(x) = first else {
         return Numbers::Refused(refused(first, i, 0));
     };
     let second = take(corner.y);
-    let Taken::Grid(y) = second else {
+    let Ok(y) = second else {
         return Numbers::Refused(refused(second, i, 1));
     };
     Numbers::Both(x, y)
@@ -50,7 +50,7 @@ fn pair(corner: Corner, i: usize) -> Numbers
 // What a look at every corner finds, and the grid numbers where all are good.
 #[derive(Clone, Copy)]
 struct Gathering {
-    checked: Checked,
+    checked: Result<(), Refusal>,
     numbers: [i32; 128],
 }
 
@@ -70,7 +70,7 @@ fn gather(corners: [Corner; 64], count: usize) -> Gathering
             }
             Numbers::Refused(r) => {
                 return Gathering {
-                    checked: Checked::Refused(r),
+                    checked: Err(r),
                     numbers,
                 };
             }
@@ -78,42 +78,42 @@ fn gather(corners: [Corner; 64], count: usize) -> Gathering
         i += 1;
     }
     Gathering {
-        checked: Checked::Good,
+        checked: Ok(()),
         numbers,
     }
 }
 
 // Numbers into a lent list, from its begin on.
-pub fn put(numbers: &[i32], list: &mut [i32]) -> Checked
+pub fn put(numbers: &[i32], list: &mut [i32]) -> Result<(), Refusal>
     ensures { Put numbers.now list.old result list.new }
 {
     if list.len() < numbers.len() {
-        return Checked::Refused(Refusal::Short);
+        return Err(Refusal::Short);
     }
     let mut j = 0;
     while j < numbers.len() {
         list[j] = numbers[j];
         j += 1;
     }
-    Checked::Good
+    Ok(())
 }
 
 // A footprint: `count` corners into a lent list, x then y. The list changes only where every corner is taken.
-pub fn intake(corners: [Corner; 64], count: usize, list: &mut [i32]) -> Checked
+pub fn intake(corners: [Corner; 64], count: usize, list: &mut [i32]) -> Result<(), Refusal>
     ensures { Intake corners count list.old result list.new }
 {
     if count < 3 {
-        return Checked::Refused(Refusal::Corners);
+        return Err(Refusal::Corners);
     }
     if count > 64 {
-        return Checked::Refused(Refusal::Corners);
+        return Err(Refusal::Corners);
     }
     if list.len() < 2 * count {
-        return Checked::Refused(Refusal::Short);
+        return Err(Refusal::Short);
     }
     let all = gather(corners, count);
     let checked = all.checked;
-    let Checked::Good = checked else {
+    let Ok(()) = checked else {
         return checked;
     };
     let numbers = all.numbers;

@@ -1,4 +1,5 @@
 -- The answer for a file, from what is found of its lines, its face and the piece that it draws. Assumes nothing.
+use Rattle.std.specs.Prelude.{Ok, Err}
 use mathlib.Core.Path.{◌≡◌, refl, ap, ◌∙◌}
 use mathlib.Core.Logic.{inl, inr}
 use mathlib.Core.List.{List}
@@ -13,8 +14,7 @@ use Rattle.rules.specs.Refusal.{Passes, Fault, refuse}
 use Rattle.rules.specs.Good.{sized_check, piece_checks}
 use Rattle.rules.proofs.Checks.{passes_append, fault_left, fault_right}
 use Rattle.refusal.specs.Said.{said}
-use Rattle.obj.specs.declared.Outline.{Outline}
-use Rattle.obj.specs.declared.Outline.TheVariants.{Corners, Refused}
+use Rattle.obj.specs.File.{Outline}
 use Rattle.line.specs.Text.{lines}
 use Rattle.line.specs.Number.{gridded}
 use Rattle.line.specs.Line.{Point}
@@ -84,7 +84,7 @@ gathered_corners ps n list g h =
 -- what drawing them answers is the answer
 pub draws_says : (file : List ℕ) (k : List ℤ → Piece) (before after : List ℤ) → length file ≤ 65536 → Lined file
     → (ps : List Point) → FaceIs file (drawn ps) → Passes (points_checks ps (length ps)) → (r : Outline) → Draws k (corners ps) before after r → ObjSays file k before after r
-draws_says file k before after short lined ps e taken (Corners n) d =
+draws_says file k before after short lined ps e taken (Ok n) d =
     record {
       passes = draw_passes file k (length before) short lined ps e taken d.0;
       points = ps;
@@ -92,4 +92,4 @@ draws_says file k before after short lined ps e taken (Corners n) d =
       count = let z = flat_size gridded ps in let q = d.1 in omega arith;
       list = d.2;
     }
-draws_says file k before after short lined ps e taken (Refused x) d = (draw_fault file k (length before) short lined ps e taken (said x) d.0, d.1)
+draws_says file k before after short lined ps e taken (Err x) d = (draw_fault file k (length before) short lined ps e taken (said x) d.0, d.1)

@@ -1,4 +1,5 @@
 -- The corners of a face one after the other: what the checks find, and what the list holds. Assumes nothing.
+use Rattle.std.specs.Prelude.{Ok, Err}
 use mathlib.Core.Path.{◌≡◌, refl, sym, ap, ◌∙◌}
 use mathlib.Core.Bool.{true}
 use mathlib.Core.Logic.{⊎_elim}
@@ -16,10 +17,8 @@ use Rattle.rules.specs.Refusal.{Passes, in_turn}
 use Rattle.rules.proofs.Checks.{passes_append, passes_left, passes_right, in_turn_fault}
 use Rattle.refusal.specs.Said.{said, Finds}
 use Rattle.refusal.specs.declared.Refusal.{Refusal}
-use Rattle.refusal.specs.declared.Checked.{Checked}
-use Rattle.refusal.specs.declared.Checked.TheVariants.{Good, Refused}
+use Rattle.refusal.specs.Said.{Checked}
 use Rattle.line.specs.Number.{gridded, is_corner, index}
-use Rattle.obj.specs.declared.Outline.TheVariants as outline
 use Rattle.line.specs.declared.Corner.{Corner}
 use Rattle.line.specs.Text.{words}
 use Rattle.line.specs.Line.{Point, face, line_of, all_corners, names, all_named}
@@ -140,7 +139,7 @@ gather_start line k table list f g d m n =
 
 module _ (line : List ℕ) (k : ℕ) (table list : List ℤ) (from to v i : ℕ) (g : Gathering line k table list from to v i) where
   -- all are passed
-  pub gather_end : length line ≤ from → Gather line k table list (outline.Corners i)
+  pub gather_end : length line ≤ from → Gather line k table list (Ok i)
   gather_end h vs ns q e t =
       let l = drop_none g.all i (g.rest ∙ word_gone line from to h) in
       let m : ns ≡ map index g.all = let d = g.face in cc in
@@ -194,17 +193,17 @@ module _ (line : List ℕ) (k : ℕ) (table list : List ℤ) (from to v i : ℕ)
       fits r f vs q t = let n = numbers vs q t in f (get_or (ps vs q t) i nowhere) (a ∙ n.0) (b ∙ n.1)
 
       -- it is refused
-      pub gather_fault : (r : Refusal) → FitBoth x y i (Refused r) → Gather line k table list (outline.Refused r)
+      pub gather_fault : (r : Refusal) → FitBoth x y i (Err r) → Gather line k table list (Err r)
       gather_fault r f vs ns q e t =
           let m : ns ≡ map index g.all = let d = g.face in cc in
           let l = ps vs q t in
-          rw m (in_turn_fault (point_checks l) (said r) i (length l) (within vs q t) (g.part vs q t).passes (fits (Refused r) f vs q t))
+          rw m (in_turn_fault (point_checks l) (said r) i (length l) (within vs q t) (g.part vs q t).passes (fits (Err r) f vs q t))
 
-      kept_part : FitBoth x y i Good → (vs : List Point) (q : k ≡ length vs) (t : Tabled vs table) → Part (ps vs q t) (i + 1) (kept x y i list)
-      kept_part f vs q t = let n = numbers vs q t in part_more (ps vs q t) i list x y (within vs q t) g.size (g.part vs q t) (a ∙ n.0) (b ∙ n.1) (fits Good f vs q t)
+      kept_part : FitBoth x y i (Ok tt) → (vs : List Point) (q : k ≡ length vs) (t : Tabled vs table) → Part (ps vs q t) (i + 1) (kept x y i list)
+      kept_part f vs q t = let n = numbers vs q t in part_more (ps vs q t) i list x y (within vs q t) g.size (g.part vs q t) (a ∙ n.0) (b ∙ n.1) (fits (Ok tt) f vs q t)
 
       -- it is kept
-      pub gather_next : (r : Corner) → Next line to k r → FitBoth x y i Good → Gathering line k table (kept x y i list) r.from r.to r.vertex (i + 1)
+      pub gather_next : (r : Corner) → Next line to k r → FitBoth x y i (Ok tt) → Gathering line k table (kept x y i list) r.from r.to r.vertex (i + 1)
       gather_next r m f =
           let u = word_at line to k r g.below m in
           let n = g.number in let s = g.some h in let o = u.begins.above in let c = next.1 in

@@ -1,4 +1,5 @@
 -- One file has one answer: two outcomes that both meet the contract are equal, answer and later list. Assumes nothing.
+use Rattle.std.specs.Prelude.{Ok, Err}
 use mathlib.Core.Path.{◌≡◌, sym, ap, ◌∙◌}
 use mathlib.Core.List.{List}
 use Prim.Native.Nat.{ℕ}
@@ -12,8 +13,7 @@ use Rattle.rules.proofs.Checks.{AllDefinite, definite_demand, definite_append, d
 use Rattle.rules.proofs.Good.{definite_piece}
 use Rattle.refusal.specs.Said.{said}
 use Rattle.refusal.proofs.Unique.{refused_one}
-use Rattle.obj.specs.declared.Outline.{Outline}
-use Rattle.obj.specs.declared.Outline.TheVariants.{Corners, Refused}
+use Rattle.obj.specs.File.{Outline}
 use Rattle.line.specs.Text.{lines}
 use Rattle.line.specs.Number.{Decimal}
 use Rattle.line.specs.Line.{Point}
@@ -56,13 +56,13 @@ module _ (file : List ℕ) (k : List ℤ → Piece) (before : List ℤ) where
   definite = definite_obj k (length before) file
 
   -- the same face, the same corners
-  drawn_one : (a b : List ℤ) (m n : ℕ) → Drawn file k before a m → Drawn file k before b n → (Corners m ≡ Corners n) × (a ≡ b)
+  drawn_one : (a b : List ℤ) (m n : ℕ) → Drawn file k before a m → Drawn file k before b n → (Ok m ≡ Ok n) × (a ≡ b)
   drawn_one a b m n f g =
       let e : f.points ≡ g.points = cc in
-      (ap Corners (f.count ∙ ap length e ∙ sym g.count), f.list ∙ ap (λ ps. fronted (corners ps) before) e ∙ sym g.list)
+      (ap Ok (f.count ∙ ap length e ∙ sym g.count), f.list ∙ ap (λ ps. fronted (corners ps) before) e ∙ sym g.list)
 
   pub obj_one : (a b : List ℤ) (r s : Outline) → ObjSays file k before a r → ObjSays file k before b s → (r ≡ s) × (a ≡ b)
-  obj_one a b (Corners m) (Corners n) f g = drawn_one a b m n f g
-  obj_one a b (Corners m) (Refused y) f g = absurd (never_both checks definite (said y) f.passes g.0)
-  obj_one a b (Refused x) (Corners n) f g = absurd (never_both checks definite (said x) g.passes f.0)
-  obj_one a b (Refused x) (Refused y) f g = (ap Refused (refused_one checks definite x y f.0 g.0), f.1 ∙ sym g.1)
+  obj_one a b (Ok m) (Ok n) f g = drawn_one a b m n f g
+  obj_one a b (Ok m) (Err y) f g = absurd (never_both checks definite (said y) f.passes g.0)
+  obj_one a b (Err x) (Ok n) f g = absurd (never_both checks definite (said x) g.passes f.0)
+  obj_one a b (Err x) (Err y) f g = (ap Err (refused_one checks definite x y f.0 g.0), f.1 ∙ sym g.1)

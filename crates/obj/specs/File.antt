@@ -1,14 +1,13 @@
 -- Request 1: the footprint of a file, its refusals in their order, and what the call answers. Assumes nothing.
-use Rattle.std.specs.Prelude.{◌≡◌, true, List, [], ◌∷◌, ◌++◌, map, ℕ, zero, suc, ◌*◌, ◌≤◌, ℤ, length, get_or}
+use Rattle.std.specs.Prelude.{◌≡◌, true, List, [], ◌∷◌, ◌++◌, map, ℕ, zero, suc, ◌*◌, ◌≤◌, ℤ, length, get_or, Result, Ok, Err}
 use Rattle.whole.specs.Fraction.{◌≈◌}
 use Rattle.whole.specs.Front.{fronted}
 use Rattle.rules.specs.Reach.{Piece}
 use Rattle.rules.specs.Refusal.{Check, Passes, Fault, demand, refuse, in_turn}
 use Rattle.rules.specs.Good.{piece_checks}
+use Rattle.refusal.specs.declared.Refusal.{Refusal}
 use Rattle.refusal.specs.Said.{said}
 use Rattle.grid.specs.Number.{grid, Within}
-use Rattle.obj.specs.declared.Outline.{Outline}
-use Rattle.obj.specs.declared.Outline.TheVariants.{Corners, Refused}
 use Rattle.line.specs.Text.{lines}
 use Rattle.line.specs.Number.{Decimal, naught, value, gridded}
 use Rattle.line.specs.Line.{Point, Line, passed, other, vertex, face, line_of, names, all_named}
@@ -115,6 +114,10 @@ pub record Drawn (file : List ℕ) (k : List ℤ → Piece) (before after : List
   pub count : n ≡ length points
   pub list : after ≡ fronted (corners points) before
 
+-- the corner count, or the refusal
+abbrev pub Outline : Type 0
+Outline = Result ℕ Refusal
+
 abbrev pub ObjSays : List ℕ → (List ℤ → Piece) → List ℤ → List ℤ → Outline → Type 0
-ObjSays file k before after (Corners n) = Drawn file k before after n
-ObjSays file k before after (Refused x) = Fault (obj_checks file k (length before)) (said x) × (after ≡ before)
+ObjSays file k before after (Ok n) = Drawn file k before after n
+ObjSays file k before after (Err x) = Fault (obj_checks file k (length before)) (said x) × (after ≡ before)

@@ -1,21 +1,17 @@
 -- What the single steps of reading a file compute. Assumes nothing.
-use Rattle.std.specs.Prelude.{◌≡◌, Bool, true, false, cond, List, [], ◌∷◌, ◌++◌, ℕ, suc, ◌+◌, ◌*◌, ◌/◌, ◌≤◌, ◌<◌, ltb, ℤ, pos, length, get_or, set}
+use Rattle.std.specs.Prelude.{◌≡◌, Bool, true, false, cond, List, [], ◌∷◌, ◌++◌, ℕ, suc, ◌+◌, ◌*◌, ◌/◌, ◌≤◌, ◌<◌, ltb, ℤ, pos, length, get_or, set, Result, Ok, Err}
 use Rattle.whole.specs.Front.{fronted}
 use Rattle.rules.specs.Reach.{Piece}
 use Rattle.rules.specs.Refusal.{Check, Passes, Fault, demand, refuse}
 use Rattle.rules.specs.Good.{piece_checks}
-use Rattle.refusal.specs.Said.{said, Finds}
-use Rattle.refusal.specs.declared.Checked.{Checked}
+use Rattle.refusal.specs.declared.Refusal.{Refusal}
+use Rattle.refusal.specs.Said.{said, Checked, Finds}
 use Rattle.line.specs.Text.{lines, unreturned}
 use Rattle.line.specs.Number.{Decimal}
 use Rattle.line.specs.Line.{Point, face, line_of, all_named}
 use Rattle.line.specs.Calls.{part, entry}
-use Rattle.obj.specs.declared.Outline.{Outline}
-use Rattle.obj.specs.declared.Outline.TheVariants as outline
 use Rattle.obj.specs.declared.pass.Seen.{Seen}
-use Rattle.obj.specs.declared.pass.Stepped.{Stepped}
-use Rattle.obj.specs.declared.pass.Stepped.TheVariants as stepped
-use Rattle.obj.specs.File.{above, points, flat, none, drawn, face_in, lines_checks, line_checks, decimal_checks, points_checks, corners}
+use Rattle.obj.specs.File.{Outline, above, points, flat, none, drawn, face_in, lines_checks, line_checks, decimal_checks, points_checks, corners}
 
 -- ---- lines
 -- a line without its end
@@ -66,9 +62,13 @@ pub record Gone (file : List ℕ) (stop n : ℕ) (seen : Seen) (table : List ℤ
   pub room : 8 * seen.vertices ≤ stop + 1
   pub holds : SeenTo file (suc n) seen table
 
+-- what was seen, or the refusal
+abbrev pub Stepped : Type 0
+Stepped = Result Seen Refusal
+
 abbrev pub Stepping : List ℕ → ℕ → ℕ → List ℤ → Stepped → Type 0
-Stepping file stop n table (stepped.Next s) = Gone file stop n s table
-Stepping file stop n table (stepped.Refused x) = Fault (line_checks file n) (said x)
+Stepping file stop n table (Ok s) = Gone file stop n s table
+Stepping file stop n table (Err x) = Fault (line_checks file n) (said x)
 
 -- all lines
 pub record Scanned (file : List ℕ) (seen : Seen) (table : List ℤ) : Type 0 where
@@ -77,8 +77,8 @@ pub record Scanned (file : List ℕ) (seen : Seen) (table : List ℤ) : Type 0 w
   pub holds : SeenTo file (length (lines file)) seen table
 
 abbrev pub Scans : List ℕ → List ℤ → Stepped → Type 0
-Scans file table (stepped.Next s) = Scanned file s table
-Scans file table (stepped.Refused x) = Fault (lines_checks file (length (lines file))) (said x)
+Scans file table (Ok s) = Scanned file s table
+Scans file table (Err x) = Fault (lines_checks file (length (lines file))) (said x)
 
 -- ---- the corners of the face
 -- the checks of a decimal that the table has so
@@ -108,8 +108,8 @@ pub record Gathered (ps : List Point) (n : ℕ) (list : List ℤ) : Type 0 where
   pub numbers : (j : ℕ) → j < 2 * n → j < 128 → get_or list j (pos 0) ≡ get_or (corners ps) j (pos 0)
 
 abbrev pub Gathers : List Point → List ℤ → Outline → Type 0
-Gathers ps list (outline.Corners n) = Gathered ps n list
-Gathers ps list (outline.Refused x) = Fault (points_checks ps (length ps)) (said x)
+Gathers ps list (Ok n) = Gathered ps n list
+Gathers ps list (Err x) = Fault (points_checks ps (length ps)) (said x)
 
 -- of the points that the indices name among any vertices that stand in the table
 abbrev pub Gather : List ℕ → ℕ → List ℤ → List ℤ → Outline → Type 0
@@ -120,5 +120,5 @@ abbrev pub draw_checks : (List ℤ → Piece) → List ℤ → ℕ → List Chec
 draw_checks k l size = piece_checks (k l) ++ (demand (length l ≤ size) (refuse 10 0 0) ∷ [])
 
 abbrev pub Draws : (List ℤ → Piece) → List ℤ → List ℤ → List ℤ → Outline → Type 0
-Draws k l before after (outline.Corners n) = Passes (draw_checks k l (length before)) × (n ≡ length l / 2) × (after ≡ fronted l before)
-Draws k l before after (outline.Refused x) = Fault (draw_checks k l (length before)) (said x) × (after ≡ before)
+Draws k l before after (Ok n) = Passes (draw_checks k l (length before)) × (n ≡ length l / 2) × (after ≡ fronted l before)
+Draws k l before after (Err x) = Fault (draw_checks k l (length before)) (said x) × (after ≡ before)

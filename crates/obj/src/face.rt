@@ -2,29 +2,28 @@
 ghost use Rattle.std.specs.Prelude.{◌≡◌, length};
 ghost use Rattle.obj.specs.Steps.{Fit, FitBoth, kept, Drafted, Gather};
 
-use crate::Outline;
 use line::{BEYOND, OFF, next_corner};
-use refusal::{Checked, Refusal};
+use refusal::Refusal;
 
 // 12 and 13 of a number of the table.
-fn fit(entry: i32, corner: usize, axis: usize) -> Checked
+fn fit(entry: i32, corner: usize, axis: usize) -> Result<(), Refusal>
     ensures { Fit entry corner axis result }
 {
     if entry == BEYOND {
-        return Checked::Refused(Refusal::Beyond(corner, axis));
+        return Err(Refusal::Beyond(corner, axis));
     }
     if entry == OFF {
-        return Checked::Refused(Refusal::OffGrid(corner, axis));
+        return Err(Refusal::OffGrid(corner, axis));
     }
-    Checked::Good
+    Ok(())
 }
 
 // And of a corner, x before y.
-fn fit_both(x: i32, y: i32, corner: usize) -> Checked
+fn fit_both(x: i32, y: i32, corner: usize) -> Result<(), Refusal>
     ensures { FitBoth x y corner result }
 {
-    if let Checked::Refused(r) = fit(x, corner, 0) {
-        return Checked::Refused(r);
+    if let Err(r) = fit(x, corner, 0) {
+        return Err(r);
     }
     fit(y, corner, 1)
 }
@@ -41,7 +40,7 @@ fn keep(x: i32, y: i32, i: usize, numbers: &mut [i32])
 }
 
 // Every corner is looked at, however many there are.
-pub(crate) fn gather(line: &[u8], above: u16, table: &[i32], numbers: &mut [i32]) -> Outline
+pub(crate) fn gather(line: &[u8], above: u16, table: &[i32], numbers: &mut [i32]) -> Result<usize, Refusal>
     requires { Drafted line.now above table.now numbers.old }
     ensures { Gather line.now above table.now numbers.new result }
 {
@@ -54,8 +53,8 @@ pub(crate) fn gather(line: &[u8], above: u16, table: &[i32], numbers: &mut [i32]
     while from < line.len() {
         let x = table[2 * v];
         let y = table[2 * v + 1];
-        if let Checked::Refused(r) = fit_both(x, y, i) {
-            return Outline::Refused(r);
+        if let Err(r) = fit_both(x, y, i) {
+            return Err(r);
         }
         keep(x, y, i, numbers);
         let next = next_corner(line, to, above);
@@ -64,5 +63,5 @@ pub(crate) fn gather(line: &[u8], above: u16, table: &[i32], numbers: &mut [i32]
         v = next.vertex;
         i += 1;
     }
-    Outline::Corners(i)
+    Ok(i)
 }

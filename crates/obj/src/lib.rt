@@ -8,10 +8,10 @@ ghost use Rattle.obj.specs.File.{ObjSays};
 ghost use Rattle.obj.specs.Steps.{Scanned, Draws};
 
 use crate::face::gather;
-use crate::pass::{Seen, Stepped, scan};
+use crate::pass::{Seen, scan};
 use good::{Slab, check_piece};
 use intake::put;
-use refusal::{Checked, Refusal};
+use refusal::Refusal;
 
 mod face;
 mod pass;
@@ -25,35 +25,35 @@ pub enum Outline {
 }
 
 // The footprint of a file, with the band and velocity given, into a lent list, x then y. The list changes only where nothing is refused.
-pub fn footprint(file: &[u8], slab: Slab, list: &mut [i32]) -> Outline
+pub fn footprint(file: &[u8], slab: Slab, list: &mut [i32]) -> Result<usize, Refusal>
     ensures { ObjSays file.now (piece_of slab) list.old list.new result }
 {
     if 65536 < file.len() {
-        return Outline::Refused(Refusal::Length);
+        return Err(Refusal::Length);
     }
     let mut table = [0i32; 16384];
     match scan(file, &mut table) {
-        Stepped::Refused(x) => Outline::Refused(x),
-        Stepped::Next(seen) => trace(file, seen, &table, slab, list),
+        Err(x) => Err(x),
+        Ok(seen) => trace(file, seen, &table, slab, list),
     }
 }
 
 // The face that was seen: its corners, then the piece that they are, then the list.
-fn trace(file: &[u8], seen: Seen, table: &[i32], slab: Slab, list: &mut [i32]) -> Outline
+fn trace(file: &[u8], seen: Seen, table: &[i32], slab: Slab, list: &mut [i32]) -> Result<usize, Refusal>
     requires { (length file.now ≤ 65536) × (length table.now ≡ 16384) × Scanned file.now seen table.now }
     ensures { ObjSays file.now (piece_of slab) list.old list.new result }
 {
     if !seen.face {
-        return Outline::Refused(Refusal::Face(0));
+        return Err(Refusal::Face(0));
     }
     let from = seen.from;
     let to = seen.to;
     let mut numbers = [0i32; 128];
     match gather(&file[from..to], seen.above as u16, table, &mut numbers) {
-        Outline::Refused(x) => Outline::Refused(x),
-        Outline::Corners(n) => {
+        Err(x) => Err(x),
+        Ok(n) => {
             if 64 < n {
-                return Outline::Refused(Refusal::Corners);
+                return Err(Refusal::Corners);
             }
             draw(&numbers[..2 * n], slab, list)
         }
@@ -61,14 +61,14 @@ fn trace(file: &[u8], seen: Seen, table: &[i32], slab: Slab, list: &mut [i32]) -
 }
 
 // Corners that were taken, as a piece and into the list.
-fn draw(corners: &[i32], slab: Slab, list: &mut [i32]) -> Outline
+fn draw(corners: &[i32], slab: Slab, list: &mut [i32]) -> Result<usize, Refusal>
     ensures { Draws (piece_of slab) corners.now list.old list.new result }
 {
-    if let Checked::Refused(x) = check_piece(slab, corners) {
-        return Outline::Refused(x);
+    if let Err(x) = check_piece(slab, corners) {
+        return Err(x);
     }
-    if let Checked::Refused(x) = put(corners, list) {
-        return Outline::Refused(x);
+    if let Err(x) = put(corners, list) {
+        return Err(x);
     }
-    Outline::Corners(corners.len() / 2)
+    Ok(corners.len() / 2)
 }

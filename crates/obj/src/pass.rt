@@ -23,7 +23,7 @@ pub(crate) enum Stepped {
 }
 
 // A line of the file: 14, then 16, then 15; a vertex takes two places of the table.
-fn step(file: &[u8], at: usize, stop: usize, line: usize, seen: Seen, table: &mut [i32]) -> Stepped
+fn step(file: &[u8], at: usize, stop: usize, line: usize, seen: Seen, table: &mut [i32]) -> Result<Seen, Refusal>
     requires { LineNext file.now at stop line seen table.old }
     ensures stepping { Stepping file.now stop line table.new result }
     ensures table_len_unchanged { length table.new ≡ length table.old }
@@ -31,12 +31,12 @@ fn step(file: &[u8], at: usize, stop: usize, line: usize, seen: Seen, table: &mu
     let n = seen.vertices;
     let said = read_line(&file[at..stop], n as u16);
     match said {
-        Said::Passed => Stepped::Next(seen),
-        Said::Other => Stepped::Refused(Refusal::Line(line + 1)),
+        Said::Passed => Ok(seen),
+        Said::Other => Err(Refusal::Line(line + 1)),
         Said::Vertex(x, y) => {
             table[2 * n] = x;
             table[2 * n + 1] = y;
-            Stepped::Next(Seen {
+            Ok(Seen {
                 vertices: n + 1,
                 face: seen.face,
                 from: seen.from,
@@ -46,12 +46,12 @@ fn step(file: &[u8], at: usize, stop: usize, line: usize, seen: Seen, table: &mu
         }
         Said::Face(named) => {
             if seen.face {
-                return Stepped::Refused(Refusal::Face(line + 1));
+                return Err(Refusal::Face(line + 1));
             }
             if !named {
-                return Stepped::Refused(Refusal::Index(line + 1));
+                return Err(Refusal::Index(line + 1));
             }
-            Stepped::Next(Seen {
+            Ok(Seen {
                 vertices: n,
                 face: true,
                 from: at,
@@ -63,7 +63,7 @@ fn step(file: &[u8], at: usize, stop: usize, line: usize, seen: Seen, table: &mu
 }
 
 // All lines, as far as none is refused. After the last line the place is one past the end.
-pub(crate) fn scan(file: &[u8], table: &mut [i32]) -> Stepped
+pub(crate) fn scan(file: &[u8], table: &mut [i32]) -> Result<Seen, Refusal>
     requires { (length file.now ≤ 65536) × (length table.old ≡ 16384) }
     ensures { Scans file.now table.new result }
 {
@@ -80,13 +80,13 @@ pub(crate) fn scan(file: &[u8], table: &mut [i32]) -> Stepped
         let end = feed(file, at);
         let stop = line_end(file, at, end);
         match step(file, at, stop, line, seen, table) {
-            Stepped::Refused(x) => return Stepped::Refused(x),
-            Stepped::Next(s) => {
+            Err(x) => return Err(x),
+            Ok(s) => {
                 seen = s;
             }
         }
         at = end + 1;
         line += 1;
     }
-    Stepped::Next(seen)
+    Ok(seen)
 }

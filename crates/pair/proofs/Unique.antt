@@ -1,4 +1,5 @@
 -- Two outcomes that both meet a public contract, answer and what is left, are equal. Assumes nothing.
+use Rattle.std.specs.Prelude.{Ok, Err}
 use mathlib.Core.Path.{◌≡◌, refl, sym, ap, ◌∙◌}
 use mathlib.Core.List.{List, [], ◌∷◌}
 use Prim.Native.Nat.{ℕ, ◌≤◌}
@@ -9,8 +10,7 @@ use Rattle.whole.specs.Decide.{Seeks}
 use Rattle.rules.specs.Refusal.{Check as Test}
 use Rattle.rules.proofs.Checks.{AllDefinite, only, definite_demand, definite_each, never_both}
 use Rattle.refusal.specs.Said.{said}
-use Rattle.refusal.specs.declared.Checked.{Checked}
-use Rattle.refusal.specs.declared.Checked.TheVariants.{Good, Refused}
+use Rattle.refusal.specs.Said.{Checked}
 use Rattle.refusal.proofs.Unique.{refused_one, writes_one}
 use Rattle.pair.specs.Pair.{Wide, words, paired_check, pairs_asked, WritePairsSays, ReadPairsSays}
 use Rattle.pair.proofs.Words.{numbers_one}
@@ -36,7 +36,7 @@ module _ (l : List ℕ) (before a b : List ℤ) where
   definite = (definite_demand _ _, tt)
 
   pub read_pairs_one : (r s : Checked) → ReadPairsSays l before a r → ReadPairsSays l before b s → (r ≡ s) × (a ≡ b)
-  read_pairs_one Good Good f g = (refl, numbers_one l a b f.2 g.2)
-  read_pairs_one Good (Refused y) f g = absurd (never_both asked definite (said y) f.0 g.0)
-  read_pairs_one (Refused x) Good f g = absurd (never_both asked definite (said x) g.0 f.0)
-  read_pairs_one (Refused x) (Refused y) f g = (ap Refused (refused_one asked definite x y f.0 g.0), f.1 ∙ sym g.1)
+  read_pairs_one (Ok _) (Ok _) f g = (refl, numbers_one l a b f.2 g.2)
+  read_pairs_one (Ok _) (Err y) f g = absurd (never_both asked definite (said y) f.0 g.0)
+  read_pairs_one (Err x) (Ok _) f g = absurd (never_both asked definite (said x) g.0 f.0)
+  read_pairs_one (Err x) (Err y) f g = (ap Err (refused_one asked definite x y f.0 g.0), f.1 ∙ sym g.1)

@@ -1,10 +1,10 @@
 -- Numbers of two bytes, low byte first, and what writing and reading them answers. Assumes nothing.
+use Rattle.std.specs.Prelude.{Ok, Err}
 use Rattle.std.specs.Prelude.{◌≡◌, List, [], ◌∷◌, ℕ, ◌+◌, ◌*◌, ◌-◌, ◌/◌, ◌%◌, ◌<◌, ℤ, pos, negsuc, length, get_or}
 use Rattle.rules.specs.Reach.{Between}
 use Rattle.rules.specs.Refusal.{refuse, Check, Passes, Fault, demand, each}
 use Rattle.refusal.specs.Said.{said, Writes}
-use Rattle.refusal.specs.declared.Checked.{Checked}
-use Rattle.refusal.specs.declared.Checked.TheVariants.{Good, Refused}
+use Rattle.refusal.specs.Said.{Checked}
 
 -- ---- one number
 -- what two bytes hold, signed
@@ -54,5 +54,5 @@ WritePairsSays numbers before after r = Writes (pairs_asked before numbers) (wor
 
 -- reading: as many numbers as there were, those of the bytes; otherwise all is as it was
 abbrev pub ReadPairsSays : List ℕ → List ℤ → List ℤ → Checked → Type 0
-ReadPairsSays bytes before after Good = Passes (paired_check bytes before ∷ []) × (length after ≡ length before) × NumbersOf bytes after
-ReadPairsSays bytes before after (Refused x) = Fault (paired_check bytes before ∷ []) (said x) × (after ≡ before)
+ReadPairsSays bytes before after (Ok _) = Passes (paired_check bytes before ∷ []) × (length after ≡ length before) × NumbersOf bytes after
+ReadPairsSays bytes before after (Err x) = Fault (paired_check bytes before ∷ []) (said x) × (after ≡ before)

@@ -3,7 +3,7 @@ ghost use Rattle.std.specs.Prelude.{◌≡◌, ◌*◌, length};
 ghost use Rattle.pair.specs.Pair.{NumbersOf, ReadPairsSays};
 
 use crate::word::number_of;
-use refusal::{Checked, Refusal};
+use refusal::Refusal;
 
 fn take(bytes: &[u8], numbers: &mut [i32])
     requires { length bytes.now ≡ 2 * length numbers.old }
@@ -17,12 +17,12 @@ fn take(bytes: &[u8], numbers: &mut [i32])
 }
 
 // As many numbers as a lent list has, out of two bytes each.
-pub fn read_pairs(bytes: &[u8], numbers: &mut [i32]) -> Checked
+pub fn read_pairs(bytes: &[u8], numbers: &mut [i32]) -> Result<(), Refusal>
     ensures { ReadPairsSays bytes.now numbers.old numbers.new result }
 {
     if bytes.len() != 2 * numbers.len() {
-        return Checked::Refused(Refusal::Length);
+        return Err(Refusal::Length);
     }
     take(bytes, numbers);
-    Checked::Good
+    Ok(())
 }

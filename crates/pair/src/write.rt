@@ -1,10 +1,10 @@
 // Numbers into bytes.
 ghost use Rattle.std.specs.Prelude.{◌≡◌, suc, ◌+◌, ◌*◌, ◌/◌, ◌%◌, ◌≤◌, length, set};
-ghost use Rattle.whole.specs.Decide.{Seeks};
+ghost use Rattle.rules.specs.Refusal.{Sought};
 ghost use Rattle.pair.specs.Pair.{Half, word, words, Halves, Wide, WritePairsSays};
 
 use crate::word::{bits_of, fits, high, low};
-use refusal::{Checked, Refusal};
+use refusal::Refusal;
 
 // The two bytes of number j, in their place.
 fn lay_one(bytes: &mut [u8], j: usize, z: i32)
@@ -30,32 +30,23 @@ fn lay(numbers: &[i32], bytes: &mut [u8])
     }
 }
 
-// The first number that two bytes do not hold; how many there are, where they hold all.
-pub fn first_wide(numbers: &[i32]) -> usize
-    ensures seeks { Seeks (Wide numbers.now) (length numbers.now) result }
-    ensures upper_bound { result ≤ length numbers.now }
+// The first number that two bytes do not hold.
+pub fn first_wide(numbers: &[i32]) -> Option<usize>
+    ensures { Sought (Wide numbers.now) (length numbers.now) result }
 {
-    let mut j = 0;
-    while j < numbers.len() {
-        if !fits(numbers[j]) {
-            return j;
-        }
-        j += 1;
-    }
-    j
+    numbers.iter().position(|z| !fits(*z))
 }
 
 // Numbers into two bytes each. All are looked at before a byte is written, so that a refusal changes nothing.
-pub fn write_pairs(numbers: &[i32], bytes: &mut [u8]) -> Checked
+pub fn write_pairs(numbers: &[i32], bytes: &mut [u8]) -> Result<(), Refusal>
     ensures { WritePairsSays numbers.now bytes.old bytes.new result }
 {
     if bytes.len() != 2 * numbers.len() {
-        return Checked::Refused(Refusal::Length);
+        return Err(Refusal::Length);
     }
-    let wide = first_wide(numbers);
-    if wide < numbers.len() {
-        return Checked::Refused(Refusal::Reach(2 * wide));
+    if let Some(wide) = first_wide(numbers) {
+        return Err(Refusal::Reach(2 * wide));
     }
     lay(numbers, bytes);
-    Checked::Good
+    Ok(())
 }

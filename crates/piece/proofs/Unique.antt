@@ -1,4 +1,6 @@
 -- At most one answer meets the promise of each public call. Assumes nothing.
+use Rattle.std.specs.Prelude.{Ok, Err}
+use Rattle.piece.specs.declared.spot.Spot.TheVariants.{On, Inside, Outside}
 use mathlib.Core.Path.{◌≡◌, refl}
 use mathlib.Core.Logic.{◌⊎◌, inl, inr}
 use mathlib.Core.List.{List}
@@ -10,26 +12,25 @@ use Rattle.decide.proofs.Parity.{one_place}
 use Rattle.refusal.specs.declared.Refusal.{Refusal}
 use Rattle.refusal.proofs.Unique.{told_one}
 use Rattle.footprint.proofs.Unique.{equal_one}
-use Rattle.piece.specs.declared.Placed.{Placed}
-use Rattle.piece.specs.declared.Placed.TheVariants.{On, Inside, Outside, Refused}
-use Rattle.piece.specs.declared.motion.Verdict.{Verdict}
-use Rattle.piece.specs.declared.motion.Coded.{Coded}
+use Rattle.piece.specs.Place.{Placed}
+use Rattle.piece.specs.Tells.{Verdict}
+use Rattle.piece.specs.Tells.{Coded}
 use Rattle.piece.specs.Place.{place_of, Lies}
 use Rattle.piece.specs.Tells.{coded_of}
 
 -- a place or a refusal as the enum has it
 case : Where ⊎ Refusal → Placed
-case (inl on) = On
-case (inl inside) = Inside
-case (inl outside) = Outside
-case (inr x) = Refused x
+case (inl on) = (Ok On)
+case (inl inside) = (Ok Inside)
+case (inl outside) = (Ok Outside)
+case (inr x) = Err x
 
 same : (r : Placed) → case (place_of r) ≡ r
 unfolding case
-same On = refl
-same Inside = refl
-same Outside = refl
-same (Refused x) = refl
+same (Ok On) = refl
+same (Ok Inside) = refl
+same (Ok Outside) = refl
+same (Err x) = refl
 
 pub place_one : (p : Pt) (l : List ℤ) (r s : Placed) → Lies p l r → Lies p l s → r ≡ s
 place_one p l = told_one place_of case same (place_checks p l) (definite_place p l) (Place (ring l) p) (one_place (ring l) p)

@@ -1,26 +1,27 @@
 -- What a verdict tells: the first fault, or, of a good run and a good piece, the answer. Assumes nothing.
-use Rattle.std.specs.Prelude.{◌⊎◌}
-use Rattle.std.proofs.Common.{inl, inr}
+use Rattle.std.specs.Prelude.{ℕ, Option, Some, None, Result, Ok, Err}
 use Rattle.rules.specs.Reach.{Run, Piece}
 use Rattle.rules.specs.Verdict as rules
 use Rattle.rules.specs.Verdict.{Answer, clear, blocked, verdict_checks, NONE}
 use Rattle.refusal.specs.declared.Refusal.{Refusal}
 use Rattle.refusal.specs.Said.{Told}
-use Rattle.piece.specs.declared.motion.Verdict.{Verdict}
-use Rattle.piece.specs.declared.motion.Verdict.TheVariants.{Clear, Mark, Refused}
-use Rattle.piece.specs.declared.motion.Coded.{Coded}
-use Rattle.piece.specs.declared.motion.Coded.TheVariants as coded
 
-abbrev pub answer_of : Verdict → Answer ⊎ Refusal
-answer_of Clear = inl clear
-answer_of (Mark m) = inl (blocked m)
-answer_of (Refused x) = inr x
+-- a verdict: None where it is clear, otherwise the mark; or the refusal
+abbrev pub Verdict : Type 0
+Verdict = Result (Option ℕ) Refusal
+
+abbrev pub answer_of : Option ℕ → Answer
+answer_of None = clear
+answer_of (Some m) = blocked m
 
 abbrev pub Tells : Run → Piece → Verdict → Type 0
-Tells r k v = Told (verdict_checks r k) (rules.Verdict r k) (answer_of v)
+Tells r k v = Told (verdict_checks r k) (λ a. rules.Verdict r k (answer_of a)) v
 
 -- a verdict as a number: NONE where it is clear, otherwise the mark
+abbrev pub Coded : Type 0
+Coded = Result ℕ Refusal
+
 abbrev pub coded_of : Verdict → Coded
-coded_of Clear = coded.Code NONE
-coded_of (Mark m) = coded.Code m
-coded_of (Refused x) = coded.Refused x
+coded_of (Ok None) = Ok NONE
+coded_of (Ok (Some m)) = Ok m
+coded_of (Err x) = Err x

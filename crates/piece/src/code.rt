@@ -1,15 +1,12 @@
-// A verdict as one number. `Coded` stands in motion.rt: one module may not have names that differ in case alone.
+// A verdict as one number.
 ghost use Rattle.std.specs.Prelude.{◌≡◌};
 ghost use Rattle.piece.specs.Tells.{coded_of};
 
-use crate::{Coded, NONE, Verdict};
+use crate::NONE;
+use refusal::Refusal;
 
-pub fn coded(v: Verdict) -> Coded
+pub fn coded(v: Result<Option<u32>, Refusal>) -> Result<u32, Refusal>
     ensures { result ≡ coded_of v }
 {
-    match v {
-        Verdict::Clear => Coded::Code(NONE),
-        Verdict::Mark(m) => Coded::Code(m),
-        Verdict::Refused(x) => Coded::Refused(x),
-    }
+    Ok(v?.unwrap_or(NONE))
 }

@@ -17,22 +17,6 @@ use crate::span::{Span, clip, first, some};
 use crate::spot::{Spot, place_at};
 use footprint::{around, least, most, same_side, wide};
 use good::{Run, Slab};
-use refusal::Refusal;
-
-// What a verdict is: clear, the mark of the first contact, or the refusal.
-#[derive(Clone, Copy)]
-pub enum Verdict {
-    Clear,
-    Mark(u32),
-    Refused(Refusal),
-}
-
-// A verdict as a number: the mark, or NONE; or the refusal.
-#[derive(Clone, Copy)]
-pub enum Coded {
-    Code(u32),
-    Refused(Refusal),
-}
 
 // A point and its velocity against the piece's.
 #[derive(Clone, Copy)]

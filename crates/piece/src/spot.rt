@@ -15,8 +15,9 @@ ghost use Rattle.piece.specs.Place.{pt_of, Near, where_of};
 use crate::number::{at, side};
 use footprint::{around, least, less, most, ranged};
 
-#[derive(Clone, Copy)]
-pub(crate) enum Spot {
+// Where a point lies.
+#[derive(Clone, Copy, PartialEq, Eq)]
+pub enum Spot {
     On,
     Inside,
     Outside,

@@ -1,4 +1,5 @@
 -- A piece and its block: what a block holds, and that the block of a good piece passes. Assumes nothing.
+use Rattle.std.specs.Prelude.{Err}
 use mathlib.Core.Path.{◌≡◌, refl, sym, ap, subst, ◌∙◌}
 use mathlib.Core.Logic.{inl, ⊎_elim}
 use mathlib.Core.List.{List, [], ◌∷◌, ◌++◌}
@@ -23,8 +24,7 @@ use Rattle.rules.proofs.Reach.{piece_known}
 use Rattle.rules.proofs.Checks.{passes_append, passes_left, passes_right, fault_left, fault_right}
 use Rattle.refusal.specs.Said.{said}
 use Rattle.refusal.specs.declared.Refusal.{Refusal}
-use Rattle.refusal.specs.declared.Checked.{Checked}
-use Rattle.refusal.specs.declared.Checked.TheVariants.{Refused}
+use Rattle.refusal.specs.Said.{Checked}
 use Rattle.good.specs.declared.Slab.{Slab}
 use Rattle.good.specs.Numbers.{piece_of}
 use Rattle.piece_block.specs.declared.PieceRead.{PieceRead}
@@ -327,7 +327,7 @@ pub count_most : (l : List ℕ) → Passes (block_checks l ++ piece_bytes l) →
 unfolding piece_bytes
 count_most l p = (passes_right (block_checks l) (piece_bytes l) p).1.0.most
 
-pub says_refused : (l : List ℕ) (r : PieceRead) (x : Refusal) → r.found ≡ Refused x → Fault (piece_block_checks l) (said x) → HoldsPiece r nothing → PieceSays l r
+pub says_refused : (l : List ℕ) (r : PieceRead) (x : Refusal) → r.found ≡ Err x → Fault (piece_block_checks l) (said x) → HoldsPiece r nothing → PieceSays l r
 says_refused l r x e f h = subst (PieceFound l r) (sym e) (record { fault = f; holds = h })
 
 -- ---- the corners that a reading holds

@@ -1,4 +1,5 @@
 -- There and back: the block of a good piece reads back as it, and a block that is accepted is the one that is written for it. Assumes nothing.
+use Rattle.std.specs.Prelude.{Ok}
 use mathlib.Core.Path.{◌≡◌, refl, sym, ap, subst, ◌∙◌}
 use mathlib.Core.List.{List, ◌++◌}
 use Prim.Native.Nat.{ℕ, ◌*◌, ◌-◌}
@@ -9,8 +10,7 @@ use Rattle.rules.specs.Reach.{Piece}
 use Rattle.rules.specs.Ring.{ring}
 use Rattle.rules.specs.Refusal.{Passes}
 use Rattle.rules.specs.Good.{piece_checks}
-use Rattle.refusal.specs.declared.Checked.{Checked}
-use Rattle.refusal.specs.declared.Checked.TheVariants.{Good}
+use Rattle.refusal.specs.Said.{Checked}
 use Rattle.good.specs.declared.Slab.{Slab}
 use Rattle.good.specs.Numbers.{piece_of}
 use Rattle.seal.specs.Seal.{block_size}
@@ -22,9 +22,9 @@ use Rattle.piece_block.proofs.Unique.{write_piece_one, read_piece_one}
 
 -- the answer that holds a good piece
 abbrev pub answer : Slab → List ℤ → PieceRead
-answer b l = record { found = Good; slab = b; corners = l ++ replicate (128 - length l) (pos 0); count = (ring l).size }
+answer b l = record { found = (Ok tt); slab = b; corners = l ++ replicate (128 - length l) (pos 0); count = (ring l).size }
 
-pub written_piece : (b : Slab) (l : List ℤ) (before after : List ℕ) (r : PieceRead) → WritePieceSays (piece_of b l) before after Good → PieceSays after r → r ≡ answer b l
+pub written_piece : (b : Slab) (l : List ℤ) (before after : List ℕ) (r : PieceRead) → WritePieceSays (piece_of b l) before after (Ok tt) → PieceSays after r → r ≡ answer b l
 unfolding piece_asked
 written_piece b l before after r w f =
     read_piece_one after r (answer b l) f
@@ -47,14 +47,14 @@ piece_said l r f =
         (take_at k.corners (replicate (128 - length k.corners) (pos 0)) (2 * r.count)
         (sized_length k.corners (good_sized k f.good) ∙ ap (λ n. 2 * n) (sym f.holds.count)))
 
-pub accepted_piece : (l : List ℕ) (a : PieceRead) (before after : List ℕ) (r : Checked) → PieceSays l a → a.found ≡ Good → length before ≡ block_size
-    → WritePieceSays (said_piece a) before after r → (r ≡ Good) × (after ≡ l)
+pub accepted_piece : (l : List ℕ) (a : PieceRead) (before after : List ℕ) (r : Checked) → PieceSays l a → a.found ≡ (Ok tt) → length before ≡ block_size
+    → WritePieceSays (said_piece a) before after r → (r ≡ Ok tt) × (after ≡ l)
 unfolding piece_asked
 accepted_piece l a before after r f g e w =
     let h = subst (PieceFound l a) g f in
     again h.piece (piece_said l a h) h.good h.same
   where
-    again : (k : Piece) → k ≡ said_piece a → Passes (piece_checks k) → l ≡ piece_block k → (r ≡ Good) × (after ≡ l)
+    again : (k : Piece) → k ≡ said_piece a → Passes (piece_checks k) → l ≡ piece_block k → (r ≡ Ok tt) × (after ≡ l)
     again k q p s =
-        write_piece_one (said_piece a) before after l r Good w
+        write_piece_one (said_piece a) before after l r (Ok tt) w
         ((e, subst (λ m. Passes (piece_checks m)) q p), s ∙ ap piece_block q)

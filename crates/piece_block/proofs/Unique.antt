@@ -1,4 +1,5 @@
 -- Two outcomes that both meet a public contract, answer and later bytes, are equal. Assumes nothing.
+use Rattle.std.specs.Prelude.{Ok, Err, Some, None}
 use mathlib.Core.Path.{◌≡◌, refl, sym, ap, subst, ◌∙◌}
 use mathlib.Core.List.{List, ◌∷◌}
 use Prim.Native.Nat.{ℕ}
@@ -11,10 +12,8 @@ use Rattle.rules.proofs.Verdict.{one_verdict}
 use Rattle.rules.proofs.Checks.{never_both, passes_append}
 use Rattle.refusal.specs.Said.{said, Told}
 use Rattle.refusal.proofs.Unique.{refused_one, writes_one}
-use Rattle.refusal.specs.declared.Checked.{Checked}
-use Rattle.refusal.specs.declared.Checked.TheVariants.{Good, Refused}
-use Rattle.piece.specs.declared.motion.Verdict as told
-use Rattle.piece.specs.declared.motion.Verdict.TheVariants.{Clear, Mark, Refused as Unjudged}
+use Rattle.refusal.specs.Said.{Checked}
+--TODO use Rattle.piece.specs.declared.motion.Verdict as told
 use Rattle.piece.specs.Tells.{answer_of}
 use Rattle.piece.proofs.Tells.{verdict_one}
 use Rattle.seal.specs.Seal.{length_check}
@@ -44,13 +43,13 @@ holds_one r s k e h g =
     }
 
 found_one : (l : List ℕ) (r s : PieceRead) (x y : Checked) → r.found ≡ x → s.found ≡ y → PieceFound l r x → PieceFound l s y → r ≡ s
-found_one l r s Good Good d e f g =
+found_one l r s (Ok tt) (Ok tt) d e f g =
     let q = pieces.piece_one l f.piece g.piece (pieces.block_in l f.piece f.same f.good) (pieces.block_in l g.piece g.same g.good) in
     holds_one r s g.piece (d ∙ sym e) (subst (HoldsPiece r) q f.holds) g.holds
-found_one l r s Good (Refused y) d e f g = absurd (never_both (piece_block_checks l) (definite_piece_block l) (said y) (pieces.block_passes l f.piece f.same f.good) g.fault)
-found_one l r s (Refused x) Good d e f g = absurd (never_both (piece_block_checks l) (definite_piece_block l) (said x) (pieces.block_passes l g.piece g.same g.good) f.fault)
-found_one l r s (Refused x) (Refused y) d e f g =
-    holds_one r s _ (d ∙ ap Refused (refused_one (piece_block_checks l) (definite_piece_block l) x y f.fault g.fault) ∙ sym e) f.holds g.holds
+found_one l r s (Ok _) (Err y) d e f g = absurd (never_both (piece_block_checks l) (definite_piece_block l) (said y) (pieces.block_passes l f.piece f.same f.good) g.fault)
+found_one l r s (Err x) (Ok _) d e f g = absurd (never_both (piece_block_checks l) (definite_piece_block l) (said x) (pieces.block_passes l g.piece g.same g.good) f.fault)
+found_one l r s (Err x) (Err y) d e f g =
+    holds_one r s _ (d ∙ ap Err (refused_one (piece_block_checks l) (definite_piece_block l) x y f.fault g.fault) ∙ sym e) f.holds g.holds
 
 pub read_piece_one : (l : List ℕ) (r s : PieceRead) → PieceSays l r → PieceSays l s → r ≡ s
 read_piece_one l r s f g = found_one l r s r.found s.found refl refl f g
@@ -70,9 +69,9 @@ module _ (r : rules.Run) (l : List ℕ) where
       passes_append (length_check l ∷ run_checks r) (piece_block_checks l) (pieces.passed_long l p, f.run) p
 
   as_told : (v : told.Verdict) → VerdictInSays r l v → Told (verdict_in_checks r l) (VerdictOn r l) (answer_of v)
-  as_told Clear f = (passed clear f, f)
-  as_told (Mark m) f = (passed (blocked m) f, f)
-  as_told (Unjudged x) f = f
+  as_told (Ok None) f = (passed clear f, f)
+  as_told (Ok (Some m)) f = (passed (blocked m) f, f)
+  as_told (Err x) f = f
 
   pub verdict_in_one : (v w : told.Verdict) → VerdictInSays r l v → VerdictInSays r l w → v ≡ w
   verdict_in_one v w f g =

@@ -1,4 +1,5 @@
 -- A verdict on the piece in a block: which answers the run, the bytes and the piece's numbers give. Assumes nothing.
+use Rattle.std.specs.Prelude.{Ok, Err, Some, None}
 use mathlib.Core.Path.{◌≡◌, refl}
 use mathlib.Core.Logic.{inl, inr}
 use mathlib.Core.List.{List, ◌∷◌, ◌++◌}
@@ -14,8 +15,7 @@ use Rattle.rules.proofs.Good.{definite_run}
 use Rattle.refusal.specs.Said.{said}
 use Rattle.refusal.specs.declared.Refusal as enum
 use Rattle.refusal.specs.declared.Refusal.TheVariants.{Length}
-use Rattle.piece.specs.declared.motion.Verdict.{Verdict}
-use Rattle.piece.specs.declared.motion.Verdict.TheVariants.{Clear, Mark, Refused}
+use Rattle.piece.specs.Tells.{Verdict}
 use Rattle.piece.specs.Tells.{Tells}
 use Rattle.seal.specs.Seal.{block_size, length_check, block_checks}
 use Rattle.block.specs.Reading.{piece_bytes}
@@ -24,7 +24,7 @@ use Rattle.piece_block.specs.Verdicts.{VerdictOn, verdict_in_checks, VerdictInSa
 use Rattle.piece_block.proofs.PieceLaws.{block_long, bytes_fault, inside_fault}
 
 module _ (r : Run) (l : List ℕ) where
-  pub length_refused : (length l ≡ block_size → ⊥) → VerdictInSays r l (Refused Length)
+  pub length_refused : (length l ≡ block_size → ⊥) → VerdictInSays r l (Err Length)
   unfolding verdict_in_checks
   length_refused f = inl (f, refl)
 
@@ -33,16 +33,16 @@ module _ (r : Run) (l : List ℕ) where
     first : List Check
     first = length_check l ∷ run_checks r
 
-    pub run_refused : (x : enum.Refusal) → Fault (run_checks r) (said x) → VerdictInSays r l (Refused x)
+    pub run_refused : (x : enum.Refusal) → Fault (run_checks r) (said x) → VerdictInSays r l (Err x)
     unfolding verdict_in_checks first
     run_refused x f = fault_left first (piece_block_checks l) (said x) (inr (long, f))
 
-    pub bytes_refused : (x : enum.Refusal) → Passes (run_checks r) → Fault (block_checks l ++ piece_bytes l) (said x) → VerdictInSays r l (Refused x)
+    pub bytes_refused : (x : enum.Refusal) → Passes (run_checks r) → Fault (block_checks l ++ piece_bytes l) (said x) → VerdictInSays r l (Err x)
     unfolding verdict_in_checks first
     bytes_refused x good f = fault_right first (piece_block_checks l) (said x) (long, good) (bytes_fault l (said x) f)
 
     -- where the run is good, a refusal is the block's
-    pub block_refused : (x : enum.Refusal) → Passes (run_checks r) → VerdictInSays r l (Refused x) → Fault (piece_block_checks l) (said x)
+    pub block_refused : (x : enum.Refusal) → Passes (run_checks r) → VerdictInSays r l (Err x) → Fault (piece_block_checks l) (said x)
     unfolding verdict_in_checks first
     block_refused x good f = fault_past first (piece_block_checks l) (definite_demand _ _, definite_run r) (said x) (long, good) f
 
@@ -60,7 +60,7 @@ module _ (r : Run) (l : List ℕ) where
 
     pub block_says : (v : Verdict) → Tells r k v → VerdictInSays r l v
     unfolding verdict_checks verdict_in_checks
-    block_says Clear h = judged clear h
-    block_says (Mark m) h = judged (blocked m) h
-    block_says (Refused x) h =
+    block_says (Ok None) h = judged clear h
+    block_says (Ok (Some m)) h = judged (blocked m) h
+    block_says (Err x) h =
         inr (block_long l bytes, fault_then (run_checks r) (piece_checks k) (piece_block_checks l) (said x) (inside_fault l k (said x) bytes held) h)

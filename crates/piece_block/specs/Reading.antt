@@ -1,12 +1,11 @@
 -- What reading and writing a piece block finds: the order of refusals, and what is answered. Assumes nothing.
-use Rattle.std.specs.Prelude.{◌≡◌, List, [], ◌∷◌, ◌++◌, ℕ, ◌+◌, ◌*◌, ◌-◌, ◌%◌, ◌≤◌, ℤ, pos, length, get_or, replicate}
-use Rattle.rules.specs.Reach.{Piece, piece}
+use Rattle.std.specs.Prelude.{◌≡◌, List, [], ◌∷◌, ◌++◌, ℕ, ◌+◌, ◌*◌, ◌-◌, ◌%◌, ◌≤◌, ℤ, pos, length, get_or, replicate, Result, Ok, Err}
+use Rattle.rules.specs.Reach.{Piece}
 use Rattle.rules.specs.Ring.{ring}
-use Rattle.rules.specs.Refusal.{Refusal, refuse, Check, Passes, Fault, demand, each}
+use Rattle.rules.specs.Refusal.{refuse, Check, Passes, Fault, demand, each}
 use Rattle.rules.specs.Good.{Sized, piece_checks}
-use Rattle.refusal.specs.Said.{said, Writes}
-use Rattle.refusal.specs.declared.Checked.{Checked}
-use Rattle.refusal.specs.declared.Checked.TheVariants.{Good, Refused}
+use Rattle.refusal.specs.declared.Refusal as refusal
+use Rattle.refusal.specs.Said.{said, Checked, Writes}
 use Rattle.good.specs.Numbers.{piece_of}
 use Rattle.pair.specs.Pair.{Half, Halves, Wide}
 use Rattle.seal.specs.Seal.{length_check, block_checks}
@@ -31,10 +30,6 @@ pub record HoldsPiece (r : PieceRead) (k : Piece) : Type 0 where
   pub count : r.count ≡ (ring k.corners).size
   pub corners : r.corners ≡ k.corners ++ replicate (128 - length k.corners) (pos 0)
 
--- no corner, and every number zero
-abbrev pub nothing : Piece
-nothing = piece (pos 0) (pos 0) (pos 0) (pos 0) (pos 0) []
-
 -- a piece block is accepted iff it is the block of that piece, which is good
 pub record PieceGood (l : List ℕ) (r : PieceRead) : Type 0 where
   pub piece : Piece
@@ -42,16 +37,9 @@ pub record PieceGood (l : List ℕ) (r : PieceRead) : Type 0 where
   pub same : l ≡ piece_block piece
   pub holds : HoldsPiece r piece
 
-pub record PieceRefused (l : List ℕ) (x : Refusal) (r : PieceRead) : Type 0 where
-  pub fault : Fault (piece_block_checks l) x
-  pub holds : HoldsPiece r nothing
-
-abbrev pub PieceFound : List ℕ → PieceRead → Checked → Type 0
-PieceFound l r Good = PieceGood l r
-PieceFound l r (Refused x) = PieceRefused l (said x) r
-
-abbrev pub PieceSays : List ℕ → PieceRead → Type 0
-PieceSays l r = PieceFound l r r.found
+abbrev pub PieceSays : List ℕ → Result PieceRead refusal.Refusal → Type 0
+PieceSays l (Ok r) = PieceGood l r
+PieceSays l (Err x) = Fault (piece_block_checks l) (said x)
 
 -- ---- writing: what is refused, and what is answered and left
 -- two numbers for each corner, and at most as many as a block holds

@@ -8,13 +8,11 @@ mod verdicts;
 
 use good::Slab;
 pub use pieces::{read_piece, slab_numbers, write_piece, write_piece_body};
-use refusal::Checked;
 pub use verdicts::verdict_in;
 
-// A piece: its corners stand first in the array, x, y, x, y .., and zeros after them; all is zero where it is refused.
+// A piece that was read: its corners stand first in the array, x, y, x, y .., and zeros after them.
 #[derive(Clone, Copy)]
 pub struct PieceRead {
-    pub found: Checked,
     pub slab: Slab,
     pub corners: [i32; 128],
     pub count: usize,

@@ -11,7 +11,7 @@ pub(crate) fn slab_at(block: &[u8]) -> Slab
     ensures { SlabAt block.now result }
 {
     let mut numbers = [0i32; 5];
-    read_pairs(&block[2..12], &mut numbers);
+    read_pairs(&block[2..12], &mut numbers).unwrap();
     Slab {
         bottom: numbers[0],
         top: numbers[1],
@@ -28,6 +28,6 @@ pub(crate) fn corners_at(block: &[u8], n: usize) -> [i32; 128]
 {
     let end = 12 + 2 * n;
     let mut corners = [0i32; 128];
-    read_pairs(&block[12..end], &mut corners[..n]);
+    read_pairs(&block[12..end], &mut corners[..n]).unwrap();
     corners
 }

@@ -9,13 +9,13 @@ ghost use Rattle.piece_block.specs.Verdicts.{VerdictInSays};
 use crate::scan::{corners_at, slab_at};
 use block::{Kind, check_kind};
 use good::{Run, check_run};
-use piece::{Verdict, verdict};
-use refusal::{Checked, Refusal};
+use piece::verdict;
+use refusal::Refusal;
 use seal::SIZE;
 
 // The verdict on the numbers in a block whose other bytes are right; it checks the run, and then the piece.
 #[tactic(auto, using(crate::proofs::PieceLaws::block_long, crate::proofs::PieceLaws::count_most))]
-fn judge(run: Run, block: &[u8]) -> Verdict
+fn judge(run: Run, block: &[u8]) -> Result<Option<u32>, Refusal>
     requires { Passes (block_checks block.now ++ piece_bytes block.now) }
     ensures { VerdictInSays (run_of run) block.now result }
 {
@@ -25,17 +25,14 @@ fn judge(run: Run, block: &[u8]) -> Verdict
     verdict(run, slab, &corners[..n])
 }
 
-pub fn verdict_in(run: Run, block: &[u8]) -> Verdict
+pub fn verdict_in(run: Run, block: &[u8]) -> Result<Option<u32>, Refusal>
     ensures { VerdictInSays (run_of run) block.now result }
 {
     if block.len() != SIZE {
-        return Verdict::Refused(Refusal::Length);
+        return Err(Refusal::Length);
     }
-    match check_kind(block, Kind::Piece) {
-        Checked::Good => judge(run, block),
-        Checked::Refused(x) => match check_run(run) {
-            Checked::Good => Verdict::Refused(x),
-            Checked::Refused(y) => Verdict::Refused(y),
-        },
-    }
+    let checked = check_kind(block, Kind::Piece);
+    check_run(run)?;
+    checked?;
+    judge(run, block)
 }

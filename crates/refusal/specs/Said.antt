@@ -36,8 +36,12 @@ said x = said_in x 0
 abbrev pub RowOf : Refusal → Row → Type 0
 RowOf x r = (r.number ≡ (said x).number) × (r.a ≡ (said x).a) × (r.b ≡ (said x).b)
 
+-- what checks find, as the code has it: nothing to say, or a refusal
+abbrev pub Checked : Type 0
+Checked = Result (Unit {0}) Refusal
+
 -- what checks find: all pass, or the first fault
-abbrev pub Finds : List Test → Result (Unit {0}) Refusal → Type 0
+abbrev pub Finds : List Test → Checked → Type 0
 Finds cs (Ok _) = Passes cs
 Finds cs (Err r) = Fault cs (said r)
 
@@ -47,6 +51,6 @@ Told cs P (Ok a) = Passes cs × P a
 Told cs P (Err x) = Fault cs (said x)
 
 -- writing what the checks pass makes what was asked for; otherwise the first fault is answered and all is as it was
-abbrev pub Writes : {A : Type 0} → List Test → A → A → A → Result (Unit {0}) Refusal → Type 0
+abbrev pub Writes : {A : Type 0} → List Test → A → A → A → Checked → Type 0
 Writes cs made before after (Ok _) = Passes cs × (after ≡ made)
 Writes cs made before after (Err r) = Fault cs (said r) × (after ≡ before)

@@ -1,4 +1,5 @@
 -- Laws of the pass over a room: a code for each piece, and the codes in the lent list. Assumes nothing.
+use Rattle.std.specs.Prelude.{Ok, Err, Some, None}
 use mathlib.Core.Path.{refl}
 use mathlib.Core.Logic.{inl}
 use mathlib.Core.List.{List, [], ◌∷◌, ◌++◌}
@@ -17,8 +18,7 @@ use Rattle.rules.proofs.Checks.{passes_append, fault_left, fault_right}
 use Rattle.refusal.specs.declared.Refusal.{Refusal}
 use Rattle.refusal.specs.declared.Refusal.TheVariants.{Short}
 use Rattle.refusal.specs.Said.{said, said_in}
-use Rattle.piece.specs.declared.motion.Verdict.{Verdict}
-use Rattle.piece.specs.declared.motion.Verdict.TheVariants as verdict
+use Rattle.piece.specs.Tells.{Verdict}
 use Rattle.piece.specs.Tells.{coded_of}
 use Rattle.piece.proofs.Tells.{tells_code}
 use Rattle.piece_block.specs.Reading.{piece_block_checks}
@@ -42,7 +42,7 @@ module _ (r : Run) (image : List ℕ) (i : ℕ) where
     piece = v.piece;
     same = v.same;
     good = v.good;
-    verdict = (tells_code r v.piece (verdict.Mark k) (passes_append (run_checks r) (piece_checks v.piece) v.run v.good, v.verdict)).verdict;
+    verdict = (tells_code r v.piece (Ok (Some k)) (passes_append (run_checks r) (piece_checks v.piece) v.run v.good, v.verdict)).verdict;
   }
 
   -- the run is good and the block whole, so what the block says is refused
@@ -52,9 +52,9 @@ module _ (r : Run) (image : List ℕ) (i : ℕ) where
       block_refused r (block_at image (suc i)) (nth_length image (suc i) (omega arith)) x good f
 
   pub code_found : Passes (run_checks r) → Has image i → (v : Verdict) → VerdictInSays r (block_at image (suc i)) v → CodeFound r image i (coded_of v)
-  code_found good has verdict.Clear h = h
-  code_found good has (verdict.Mark k) h = code_mark k h
-  code_found good has (verdict.Refused x) h = code_none good has x h
+  code_found good has (Ok None) h = h
+  code_found good has (Ok (Some k)) h = code_mark k h
+  code_found good has (Err x) h = code_none good has x h
 
 -- a piece that has a code passes
 pub code_passes : (r : Run) (image : List ℕ) (i c : ℕ) → CodeOf r image i c → Passes (piece_block_checks (block_at image (suc i)))

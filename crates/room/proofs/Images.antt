@@ -1,4 +1,5 @@
 -- Laws of images: what length, header and length against count say, and where piece i stands. Assumes nothing.
+use Rattle.std.specs.Prelude.{Ok, Err}
 use mathlib.Core.Path.{◌≡◌, refl, sym, ap, subst, ◌∙◌}
 use mathlib.Core.Logic.{inl, inr}
 use mathlib.Core.List.{List, [], ◌∷◌}
@@ -14,7 +15,6 @@ use Rattle.refusal.specs.Said.{said_in}
 use Rattle.seal.specs.Seal.{byte, block_at}
 use Rattle.block.specs.Reading.{header_checks, HeaderSays}
 use Rattle.piece_block.specs.Reading.{piece_block_checks}
-use Rattle.block.specs.declared.HeaderRead.TheVariants.{Count as Pieced, NoHeader}
 use Rattle.seal.proofs.Blocks.{nth_byte, nth_part}
 use Rattle.block.proofs.Headers.{header_passes, header_one, header_is, header_count}
 use Rattle.room.specs.declared.Counted.TheVariants.{Count, Refused}
@@ -36,11 +36,11 @@ module _ (image : List ℕ) where
   unfolding head_checks
   not_whole f = inl (f, refl)
 
-  pub no_header : Whole image → (x : Refusal) → HeaderSays b (NoHeader x) → HeadSays image (Refused x 0)
+  pub no_header : Whole image → (x : Refusal) → HeaderSays b (Err x) → HeadSays image (Refused x 0)
   unfolding head_checks
   no_header w x f = inr (w, fault_left (header_checks b) last (said_in x 0) f)
 
-  module _ (w : Whole image) (n : ℕ) (h : HeaderSays b (Pieced n)) where
+  module _ (w : Whole image) (n : ℕ) (h : HeaderSays b (Ok n)) where
     header : Passes (header_checks b)
     header = subst (λ (l : List ℕ). Passes (header_checks l)) (sym h.1) (header_passes n h.0)
 

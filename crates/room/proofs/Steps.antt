@@ -1,11 +1,11 @@
 -- Laws of steps: the piece, the end and the refusals that a step may find. Assumes nothing.
+use Rattle.std.specs.Prelude.{Ok, Err}
 use mathlib.Core.Path.{◌≡◌, refl, sym, subst}
 use mathlib.Core.List.{List}
 use Prim.Native.Nat.{ℕ, suc, ◌+◌, ◌≤◌}
 use native.Mathlib.Numerals.{add-one}
 use Rattle.rules.specs.Refusal.{Passes, Fault}
 use Rattle.refusal.specs.declared.Refusal.{Refusal}
-use Rattle.refusal.specs.declared.Checked.TheVariants.{Good, Refused as Bad}
 use Rattle.refusal.specs.Said.{said, said_in}
 use Rattle.piece_block.specs.declared.PieceRead.{PieceRead}
 use Rattle.piece_block.specs.Reading.{piece_block_checks, PieceGood, PieceFound, PieceSays}
@@ -17,10 +17,10 @@ use Rattle.room.specs.Step.{Gives, StepFault, block, StepFinds, StepSays}
 use Rattle.room.specs.Made.{NoPiece, step_of}
 
 -- what reading a block found, where its answer is known
-pub piece_good : (l : List ℕ) (p : PieceRead) → PieceSays l p → p.found ≡ Good → PieceGood l p
+pub piece_good : (l : List ℕ) (p : PieceRead) → PieceSays l p → p.found ≡ (Ok tt) → PieceGood l p
 piece_good l p h e = subst (PieceFound l p) e h
 
-pub piece_bad : (l : List ℕ) (p : PieceRead) (x : Refusal) → PieceSays l p → p.found ≡ Bad x → Fault (piece_block_checks l) (said x)
+pub piece_bad : (l : List ℕ) (p : PieceRead) (x : Refusal) → PieceSays l p → p.found ≡ Err x → Fault (piece_block_checks l) (said x)
 piece_bad l p x h e = (subst (PieceFound l p) e h).fault
 
 module _ (image : List ℕ) (place : ℕ) where

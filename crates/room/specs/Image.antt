@@ -1,5 +1,5 @@
 -- A room image: a header and then its pieces, and what reading it finds. Assumes nothing.
-use Rattle.std.specs.Prelude.{◌≡◌, List, [], ◌∷◌, ◌++◌, ℕ, suc, ◌*◌, ◌<◌, length}
+use Rattle.std.specs.Prelude.{◌≡◌, List, [], ◌∷◌, ◌++◌, ℕ, suc, ◌*◌, ◌<◌, length, Result, Ok, Err}
 use Rattle.rules.specs.Refusal as rules
 use Rattle.rules.specs.Refusal.{refuse, in_block, Check, Passes, Fault, demand}
 use Rattle.rules.specs.Reach.{Pieces, Piece}
@@ -10,8 +10,8 @@ use Rattle.block.specs.Layout.{header_block}
 use Rattle.piece_block.specs.Layout.{piece_block}
 use Rattle.block.specs.Reading.{header_checks}
 use Rattle.piece_block.specs.Reading.{piece_block_checks}
-use Rattle.room.specs.declared.Counted.{Counted}
-use Rattle.room.specs.declared.Counted.TheVariants.{Count, Refused}
+use Rattle.refusal.specs.declared.Refusal.{Refusal}
+use Rattle.room.specs.declared.RoomRefusal.{RoomRefusal}
 
 -- the piece count that the header says
 abbrev pub count : List ℕ → ℕ
@@ -32,10 +32,22 @@ pub record HeadGood (image : List ℕ) (n : ℕ) : Type 0 where
   pub passes : Passes (head_checks image)
   pub pieces : n ≡ count image
 
+-- what a refusal of a room says
+abbrev pub room_said : RoomRefusal → rules.Refusal
+room_said r = said_in r.refusal r.block
+
+-- a refusal of no piece
+abbrev pub Unblocked : Refusal → RoomRefusal → Type 0
+Unblocked x r = r ≡ record { refusal = x; block = 0 }
+
+-- the piece count, or the refusal
+abbrev pub Counted : Type 0
+Counted = Result ℕ RoomRefusal
+
 -- the piece count where they pass, otherwise the fault
 abbrev pub HeadSays : List ℕ → Counted → Type 0
-HeadSays image (Count n) = HeadGood image n
-HeadSays image (Refused x b) = Fault (head_checks image) (said_in x b)
+HeadSays image (Ok n) = HeadGood image n
+HeadSays image (Err r) = Fault (head_checks image) (room_said r)
 
 -- the head is good and has a piece i
 pub record Has (image : List ℕ) (i : ℕ) : Type 0 where

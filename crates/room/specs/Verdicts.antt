@@ -1,5 +1,5 @@
 -- The verdicts of a run on each piece of a room, in a lent list. Assumes nothing.
-use Rattle.std.specs.Prelude.{◌≡◌, List, [], ◌∷◌, ◌++◌, ℕ, suc, ◌≤◌, ◌<◌, length, get_or}
+use Rattle.std.specs.Prelude.{◌≡◌, List, [], ◌∷◌, ◌++◌, ℕ, suc, ◌≤◌, ◌<◌, length, get_or, Ok, Err}
 use Rattle.whole.specs.Front.{Stays}
 use Rattle.rules.specs.Reach.{Run}
 use Rattle.rules.specs.Refusal.{refuse, Check, Passes, Fault, demand}
@@ -7,10 +7,7 @@ use Rattle.rules.specs.Good.{run_checks}
 use Rattle.rules.specs.Verdict.{answer}
 use Rattle.seal.specs.Seal.{block_at}
 use Rattle.piece_block.specs.Verdicts.{VerdictOn}
-use Rattle.room.specs.declared.Counted.{Counted}
-use Rattle.room.specs.declared.Counted.TheVariants.{Count, Refused}
-use Rattle.room.specs.Image.{count, room_checks}
-use Rattle.refusal.specs.Said.{said_in}
+use Rattle.room.specs.Image.{count, room_checks, room_said, Counted}
 
 -- the run, the room, and at last the lent list
 unfoldable pub verdicts_checks : Run → List ℕ → List ℕ → List Check
@@ -28,5 +25,5 @@ pub record Filled (r : Run) (image before after : List ℕ) (n : ℕ) : Type 0 w
   pub stays : Stays 0 (count image) before after
 
 abbrev pub VerdictsSay : Run → List ℕ → List ℕ → List ℕ → Counted → Type 0
-VerdictsSay r image before after (Count n) = Filled r image before after n
-VerdictsSay r image before after (Refused x b) = Fault (verdicts_checks r image before) (said_in x b) × (after ≡ before)
+VerdictsSay r image before after (Ok n) = Filled r image before after n
+VerdictsSay r image before after (Err x) = Fault (verdicts_checks r image before) (room_said x) × (after ≡ before)

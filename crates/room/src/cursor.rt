@@ -5,72 +5,37 @@ ghost use Rattle.room.specs.Made.{NoPiece, step_of};
 ghost use Rattle.room.specs.Step.{ReaderAt, StepSays};
 
 use crate::image::{head, read_block};
-use crate::{Counted, Found, Reader, Step};
-use good::Slab;
+use crate::{Reader, RoomRefusal, Step};
 use piece_block::PieceRead;
-use refusal::Checked;
 
-// The end or a refusal.
-fn no_piece(found: Found, next: usize) -> Step
-    ensures { NoPiece found next result }
-{
-    let slab = Slab {
-        bottom: 0,
-        top: 0,
-        vx: 0,
-        vy: 0,
-        vz: 0,
-    };
-    Step {
-        found,
-        slab,
-        corners: [0; 128],
-        count: 0,
-        next,
-    }
-}
-
-fn with_piece(p: PieceRead, next: usize) -> Step
-    ensures { result ≡ step_of p next }
-{
-    let slab = p.slab;
-    let corners = p.corners;
-    Step {
-        found: Found::Piece,
-        slab,
-        corners,
-        count: p.count,
-        next,
-    }
-}
-
-// The block of a place below the count.
-fn step_on(image: &[u8], place: usize) -> Step
+// The piece of a block at a place below the count.
+fn piece_of(image: &[u8], place: usize) -> Result<PieceRead, RoomRefusal>
     requires { Has image.now place }
-    ensures { StepSays image.now place result }
+    ensures { BlockSays image.now place result }
 {
-    let p = read_block(image, place);
-    let found = p.found;
-    match found {
-        Checked::Good => with_piece(p, place + 1),
-        Checked::Refused(x) => no_piece(Found::Refused(x, place + 1), place),
-    }
+    let block = place + 1;
+    read_block(image, place).map_err(|refusal| RoomRefusal { refusal, block })
 }
 
 // What stands at a place of an image.
+fn found_at(image: &[u8], place: usize) -> Result<Option<PieceRead>, RoomRefusal>
+    ensures { FoundAt image.now place result }
+{
+    let count = head(image)?;
+    if place < count {
+        Ok(Some(piece_of(image, place)?))
+    } else {
+        Ok(None)
+    }
+}
+
+// A step goes on behind a piece alone.
 fn step_at(image: &[u8], place: usize) -> Step
     ensures { StepSays image.now place result }
 {
-    match head(image) {
-        Counted::Refused(x, b) => no_piece(Found::Refused(x, b), place),
-        Counted::Count(n) => {
-            if place < n {
-                step_on(image, place)
-            } else {
-                no_piece(Found::End, place)
-            }
-        }
-    }
+    let found = found_at(image, place);
+    let next = if let Ok(Some(_)) = found { place + 1 } else { place };
+    Step { found, next }
 }
 
 impl<'a> Reader<'a> {

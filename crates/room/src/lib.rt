@@ -2,37 +2,38 @@
 // specs/Image.antt says what an image is, specs/Step.antt what a step finds, specs/Verdicts.antt what the lent list holds.
 #![tactic(auto)]
 
+ghost use Rattle.room.specs.Image.{Unblocked};
+
 mod cursor;
 mod image;
 mod pass;
 
 pub use cursor::piece_at;
-use good::Slab;
 pub use pass::verdicts;
+use piece_block::PieceRead;
 use refusal::Refusal;
 
-// What reading a room finds: the piece count, or a refusal and its block.
-#[derive(Clone, Copy)]
-pub enum Counted {
-    Count(usize),
-    Refused(Refusal, usize),
+// A refusal, and its block: a piece's is the piece's number and one more, everything else's is 0.
+#[derive(Clone, Copy, PartialEq, Eq)]
+pub struct RoomRefusal {
+    pub refusal: Refusal,
+    pub block: usize,
 }
 
-// What a step of a reader finds.
-#[derive(Clone, Copy)]
-pub enum Found {
-    Piece,
-    End,
-    Refused(Refusal, usize),
+impl From<Refusal> for RoomRefusal {
+    ghost from_gives = { Unblocked };
+
+    fn from(refusal: Refusal) -> RoomRefusal
+        ensures { Unblocked refusal result }
+    {
+        RoomRefusal { refusal, block: 0 }
+    }
 }
 
-// A step: what was found, the piece where one was and zeros elsewhere, and the place of the next step.
+// A step: a piece or the end, or a refusal; and the place of the next step.
 #[derive(Clone, Copy)]
 pub struct Step {
-    pub found: Found,
-    pub slab: Slab,
-    pub corners: [i32; 128],
-    pub count: usize,
+    pub found: Result<Option<PieceRead>, RoomRefusal>,
     pub next: usize,
 }
 

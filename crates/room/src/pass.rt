@@ -9,24 +9,24 @@ ghost use Rattle.room.specs.Codes.{CodeFound, CodesSay};
 ghost use Rattle.room.specs.Image.{HeadGood, Has};
 ghost use Rattle.room.specs.Verdicts.{VerdictsSay};
 
-use crate::Counted;
+use crate::RoomRefusal;
 use crate::image::head;
 use block::MOST;
 use good::{Run, check_run};
-use piece::{Coded, coded};
+use piece::coded;
 use piece_block::verdict_in;
-use refusal::{Checked, Refusal};
+use refusal::Refusal;
 use seal::SIZE;
 
-// The verdicts on the pieces of a room, coded.
+// The verdicts on the pieces of a room, coded, and how many there are.
 #[derive(Clone, Copy)]
 pub(crate) struct Codes {
-    pub(crate) found: Counted,
     pub(crate) codes: [u32; MOST],
+    pub(crate) count: usize,
 }
 
 // The verdict on one piece, coded.
-fn code_of(run: Run, image: &[u8], i: usize) -> Coded
+fn code_of(run: Run, image: &[u8], i: usize) -> Result<u32, Refusal>
     requires { Passes (run_checks (run_of run)) × Has image.now i }
     ensures { CodeFound (run_of run) image.now i result }
 {
@@ -36,38 +36,29 @@ fn code_of(run: Run, image: &[u8], i: usize) -> Coded
 }
 
 // Piece by piece.
-fn codes_of(run: Run, image: &[u8], n: usize) -> Codes
-    requires { Passes (run_checks (run_of run)) × HeadGood image.now n }
+fn codes_of(run: Run, image: &[u8], count: usize) -> Result<Codes, RoomRefusal>
+    requires { Passes (run_checks (run_of run)) × HeadGood image.now count }
     ensures { CodesSay (run_of run) image.now result }
 {
     let mut codes = [0u32; MOST];
-    let mut i = 0;
-    while i < n {
+    for i in 0..count {
         match code_of(run, image, i) {
-            Coded::Code(c) => codes[i] = c,
-            Coded::Refused(x) => {
-                let found = Counted::Refused(x, i + 1);
-                return Codes { found, codes };
+            Ok(c) => codes[i] = c,
+            Err(refusal) => {
+                let block = i + 1;
+                return Err(RoomRefusal { refusal, block });
             }
         }
-        i += 1;
     }
-    let found = Counted::Count(n);
-    Codes { found, codes }
+    Ok(Codes { codes, count })
 }
 
-fn read_codes(run: Run, image: &[u8]) -> Codes
+fn read_codes(run: Run, image: &[u8]) -> Result<Codes, RoomRefusal>
     requires { Passes (run_checks (run_of run)) }
     ensures { CodesSay (run_of run) image.now result }
 {
-    match head(image) {
-        Counted::Count(n) => codes_of(run, image, n),
-        Counted::Refused(x, b) => {
-            let found = Counted::Refused(x, b);
-            let codes = [0u32; MOST];
-            Codes { found, codes }
-        }
-    }
+    let count = head(image)?;
+    codes_of(run, image, count)
 }
 
 fn store(codes: &[u32; MOST], n: usize, list: &mut [u32])
@@ -82,21 +73,14 @@ fn store(codes: &[u32; MOST], n: usize, list: &mut [u32])
 }
 
 // The run, the room, and at last the list, which stays as it was unless nothing is refused.
-pub fn verdicts(run: Run, image: &[u8], list: &mut [u32]) -> Counted
+pub fn verdicts(run: Run, image: &[u8], list: &mut [u32]) -> Result<usize, RoomRefusal>
     ensures { VerdictsSay (run_of run) image.now list.old list.new result }
 {
-    if let Checked::Refused(x) = check_run(run) {
-        return Counted::Refused(x, 0);
+    check_run(run)?;
+    let read = read_codes(run, image)?;
+    if list.len() < read.count {
+        return Err(Refusal::Short.into());
     }
-    let read = read_codes(run, image);
-    let found = read.found;
-    let Counted::Count(n) = found else {
-        return found;
-    };
-    if list.len() < n {
-        return Counted::Refused(Refusal::Short, 0);
-    }
-    let codes = read.codes;
-    store(&codes, n, list);
-    Counted::Count(n)
+    store(&read.codes, read.count, list);
+    Ok(read.count)
 }

@@ -1,5 +1,5 @@
 -- "What comes back when it can't be done": refusals, and the order in which checks are made. Assumes nothing.
-use Rattle.std.specs.Prelude.{◌≡◌, ◌⊎◌, List, [], ◌∷◌, ◌++◌, ℕ, zero, suc, ◌<◌}
+use Rattle.std.specs.Prelude.{◌≡◌, ◌⊎◌, List, [], ◌∷◌, ◌++◌, ℕ, zero, suc, ◌<◌, Option, Some, None}
 
 -- a number, a block and two places
 pub record Refusal : Type 0 where
@@ -40,6 +40,11 @@ pub record First (Bad : ℕ → Type 0) (n i : ℕ) : Type 0 where
   pub below : i < n
   pub bad : Bad i
   pub before : (j : ℕ) → j < i → Bad j → ⊥
+
+-- what a search for the first of n numbers that is Bad finds
+abbrev pub Sought : (ℕ → Type 0) → ℕ → Option ℕ → Type 0
+Sought Bad n None = (j : ℕ) → j < n → Bad j → ⊥
+Sought Bad n (Some i) = First Bad n i
 
 -- none of n numbers is Bad; otherwise the first one gives the refusal
 abbrev pub each : (ℕ → Type 0) → ℕ → (ℕ → Refusal) → Check

@@ -1,4 +1,5 @@
 -- A block of two parts with zeros between them: its bytes and its sums. Assumes nothing.
+use Rattle.std.specs.Prelude.{Ok}
 use mathlib.Core.Path.{◌≡◌, refl, sym, ap, subst, ◌∙◌}
 use mathlib.Core.Logic.{⊎_elim}
 use mathlib.Core.List.{List, [], ◌++◌, append-nil}
@@ -14,8 +15,7 @@ use Rattle.seal.specs.Scan.{Alike, SumsAt, Clean}
 use Rattle.rules.specs.Refusal.{Check, Passes}
 use Rattle.refusal.specs.Said.{Writes}
 use Rattle.refusal.proofs.Unique.{written}
-use Rattle.refusal.specs.declared.Checked.{Checked}
-use Rattle.refusal.specs.declared.Checked.TheVariants.{Good}
+use Rattle.refusal.specs.Said.{Checked}
 use Rattle.seal.proofs.OneFault.{definite_parts_asked}
 use Rattle.seal.proofs.Bytes.{filled_at, filled_length, sum_same, sum_split, plain_same, weighed_same, block_at, block_sealed, block_is, block_same}
 use Rattle.seal.proofs.Replaced.{mid, part_length, mid_before, mid_in, mid_after}
@@ -165,7 +165,7 @@ module _ (first : List ℕ) (at : ℕ) (h : length first ≤ at) (k : at ≤ bod
       ∙ block_same (filled at first) first (omega (arith, filled_length at first h)) (omega arith) (λ i g. filled_at at first i)
 
   -- they are written wherever the block is long enough
-  front_written : (before after : List ℕ) (r : Checked) → length before ≡ block_size → WritePartsSays first [] at before after r → (r ≡ Good) × (after ≡ block_of first)
+  front_written : (before after : List ℕ) (r : Checked) → length before ≡ block_size → WritePartsSays first [] at before after r → (r ≡ Ok tt) × (after ≡ block_of first)
   unfolding parts_asked
   front_written before after r n w =
       let e = written (parts_asked before first [] at) (definite_parts_asked before first [] at) (parts_block first [] at) before after r w

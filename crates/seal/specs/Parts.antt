@@ -2,7 +2,7 @@
 use Rattle.std.specs.Prelude.{◌≡◌, List, [], ◌∷◌, ◌++◌, ℕ, ◌+◌, ◌≤◌, length}
 use Rattle.rules.specs.Refusal.{refuse, Check, demand}
 use Rattle.refusal.specs.Said.{Writes}
-use Rattle.refusal.specs.declared.Checked.{Checked}
+use Rattle.refusal.specs.Said.{Checked}
 use Rattle.seal.specs.Seal.{body_size, filled, block_of, length_check}
 
 -- first bytes and others from byte `at` on, within 510

@@ -9,7 +9,7 @@ use crate::fill::{clear, copy};
 use crate::layout::{BODY, LAST, SIZE};
 use crate::scan::{alike, clean};
 use crate::sums::Sums;
-use refusal::{Checked, Refusal};
+use refusal::Refusal;
 
 // Whether the second part begins after the first one, and ends before the check.
 fn fit(first: &[u8], last: &[u8], at: usize) -> bool
@@ -65,20 +65,20 @@ fn lay_parts(first: &[u8], last: &[u8], at: usize, block: &mut [u8])
 }
 
 // The first bytes of a block, zeros up to byte `at`, and the bytes that stand there; zeros and the check follow.
-pub fn write_parts(first: &[u8], last: &[u8], at: usize, block: &mut [u8]) -> Checked
+pub fn write_parts(first: &[u8], last: &[u8], at: usize, block: &mut [u8]) -> Result<(), Refusal>
     ensures { WritePartsSays first.now last.now at block.old block.new result }
 {
     if block.len() != SIZE {
-        return Checked::Refused(Refusal::Length);
+        return Err(Refusal::Length);
     }
     if !fit(first, last, at) {
-        return Checked::Refused(Refusal::Length);
+        return Err(Refusal::Length);
     }
     let right = parts_sums(first, last, at);
     lay_parts(first, last, at, block);
     block[BODY] = right.plain as u8;
     block[LAST] = right.weighed as u8;
-    Checked::Good
+    Ok(())
 }
 
 // Whether the first 510 bytes are those of the two parts.

@@ -6,7 +6,7 @@ ghost use Rattle.seal.specs.Seal.{block_size, body_size, length_check, NotZero, 
 ghost use Rattle.seal.specs.Scan.{Clean};
 
 use crate::layout::{BODY, SIZE};
-use refusal::{Checked, Refusal};
+use refusal::Refusal;
 
 // Whether the bytes from here up to there are zero. No byte ends the loop early, so that it can go by many bytes at a time.
 pub(crate) fn clean(block: &[u8], from: usize, to: usize) -> bool
@@ -57,17 +57,17 @@ fn zeros_at(block: &[u8], from: usize) -> usize
 }
 
 // Whether a block is zero from here up to its check; where it is not, the first byte is told.
-pub fn check_unnamed(block: &[u8], from: usize) -> Checked
+pub fn check_unnamed(block: &[u8], from: usize) -> Result<(), Refusal>
     ensures { Finds (length_check block.now ∷ unnamed_check block.now from ∷ []) result }
 {
     if block.len() != SIZE {
-        return Checked::Refused(Refusal::Length);
+        return Err(Refusal::Length);
     }
     if BODY <= from {
-        return Checked::Good;
+        return Ok(());
     }
     if clean(block, from, BODY) {
-        return Checked::Good;
+        return Ok(());
     }
-    Checked::Refused(Refusal::Kind(from + zeros_at(block, from)))
+    Err(Refusal::Kind(from + zeros_at(block, from)))
 }

@@ -4,7 +4,7 @@ ghost use Rattle.refusal.specs.Said.{Finds};
 ghost use Rattle.seal.specs.Seal.{body_size, plain_sum, weighed_sum, block_checks};
 
 use crate::layout::{BODY, LAST, SIZE};
-use refusal::{Checked, Refusal};
+use refusal::Refusal;
 
 #[derive(Clone, Copy)]
 pub(crate) struct Sums {
@@ -34,20 +34,20 @@ pub(crate) fn sums_of(block: &[u8]) -> Sums
 }
 
 // The length of a block, and its check.
-pub fn check_block(block: &[u8]) -> Checked
+pub fn check_block(block: &[u8]) -> Result<(), Refusal>
     ensures { Finds (block_checks block.now) result }
 {
     if block.len() != SIZE {
-        return Checked::Refused(Refusal::Length);
+        return Err(Refusal::Length);
     }
     let right = sums_of(block);
     let first = block[BODY] as u32;
     let second = block[LAST] as u32;
     if first != right.plain {
-        return Checked::Refused(Refusal::Check);
+        return Err(Refusal::Check);
     }
     if second != right.weighed {
-        return Checked::Refused(Refusal::Check);
+        return Err(Refusal::Check);
     }
-    Checked::Good
+    Ok(())
 }

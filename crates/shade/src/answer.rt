@@ -7,27 +7,27 @@ ghost use Rattle.block.specs.Reading.{RunGood};
 ghost use Rattle.shade.specs.Text.{Whole, length_checks, run_part, Prints};
 
 use crate::line::put_page;
-use block::{MOST, RunRead, read_run};
+use block::{MOST, read_run};
 use good::Run;
 use notice::{room_line, run_line};
-use refusal::{Checked, Refusal};
-use room::{Counted, verdicts};
+use refusal::Refusal;
+use room::verdicts;
 use seal::SIZE;
 
-fn check_length(input: &[u8]) -> Checked
+fn check_length(input: &[u8]) -> Result<(), Refusal>
     ensures { Finds (length_checks input.now) result }
 {
     let n = input.len();
     if n % SIZE != 0 {
-        return Checked::Refused(Refusal::Length);
+        return Err(Refusal::Length);
     }
     if n < 1024 {
-        return Checked::Refused(Refusal::Length);
+        return Err(Refusal::Length);
     }
     if 65536 < n {
-        return Checked::Refused(Refusal::Length);
+        return Err(Refusal::Length);
     }
-    Checked::Good
+    Ok(())
 }
 
 // A good run: the room's verdicts. The list has an element for each piece that a room can have, so it is never too short.
@@ -38,8 +38,8 @@ fn answer_room(run: Run, input: &[u8], out: &mut [u8]) -> usize
     let mut codes = [0u32; MOST];
     let counted = verdicts(run, &input[SIZE..], &mut codes);
     match counted {
-        Counted::Refused(x, block) => room_line(out, x, block),
-        Counted::Count(n) => put_page(out, &codes, n),
+        Err(x) => room_line(out, x.refusal, x.block),
+        Ok(n) => put_page(out, &codes, n),
     }
 }
 
@@ -50,8 +50,8 @@ fn answer_blocks(input: &[u8], out: &mut [u8]) -> usize
 {
     let read = read_run(&input[..SIZE]);
     match read {
-        RunRead::NoRun(x) => run_line(out, x),
-        RunRead::Found(run) => answer_room(run, input, out),
+        Err(x) => run_line(out, x),
+        Ok(run) => answer_room(run, input, out),
     }
 }
 
@@ -62,7 +62,7 @@ pub(crate) fn answer(input: &[u8], out: &mut [u8]) -> usize
 {
     let checked = check_length(input);
     match checked {
-        Checked::Refused(x) => room_line(out, x, 0),
-        Checked::Good => answer_blocks(input, out),
+        Err(x) => room_line(out, x, 0),
+        Ok(()) => answer_blocks(input, out),
     }
 }

@@ -1,4 +1,6 @@
 -- What is good and where a point lies, computed: the answers that the public calls must give. Assumes nothing.
+use Rattle.std.specs.Prelude.{Ok, Err, Some, None}
+use Rattle.piece.specs.declared.spot.Spot.TheVariants.{On, Inside, Outside}
 use mathlib.Core.Path.{◌≡◌, refl}
 use mathlib.Core.Bool.{Bool, true, false, not, cond, ◌&&◌, ◌||◌}
 use mathlib.Core.Logic.{inl, inr, ⊎_elim}
@@ -22,20 +24,17 @@ use Rattle.rules.specs.Good.{Sized, Same, Meet, FirstMeet, area, RunNumber, Band
 use Rattle.rules.specs.Place.{Where, on, inside, outside, Place, PointNumber, place_checks}
 use Rattle.rules.proofs.Reach.{between_stable, run_known}
 use Rattle.refusal.specs.Said.{Finds}
-use Rattle.refusal.specs.declared.Checked.{Checked}
-use Rattle.refusal.specs.declared.Checked.TheVariants.{Good, Refused}
+use Rattle.refusal.specs.Said.{Checked}
 use Rattle.refusal.specs.declared.Refusal.TheVariants as refusal
 use Rattle.decide.specs.Touch.{ranged, place, code}
 use Rattle.decide.proofs.Verdict.{verdict_right}
 use Rattle.decide.proofs.Place.{range_yes, yes_range, place_right}
-use Rattle.piece.specs.declared.Placed.{Placed}
-use Rattle.piece.specs.declared.Placed.TheVariants as placed
+use Rattle.piece.specs.Place.{Placed}
 use Rattle.whole.specs.Decide.{Decides, Seeks}
 use Rattle.footprint.specs.Shape.{Stray, back, Bend, Drawing, equal, bends, edges_share}
 use Rattle.piece.specs.Place.{Lies}
 use Rattle.piece.specs.Tells.{Tells}
-use Rattle.piece.specs.declared.motion.Verdict.{Verdict}
-use Rattle.piece.specs.declared.motion.Verdict.TheVariants as verdict
+use Rattle.piece.specs.Tells.{Verdict}
 use Rattle.whole.proofs.Decide.{yes, no, truth, decides, none_found, Below, none_yet, one_more, stop, seeks_end}
 use Rattle.footprint.proofs.Shape.{shares_decides, equal_decides, bends_decides}
 use Rattle.footprint.proofs.Finds.{found_stray, found_same, found_fold, found_meet, found_clockwise, found_good, footprint_finds}
@@ -164,11 +163,11 @@ pick_finds cs k n bad fine f g = ⊎_elim (λ (h : n ≤ k). rw (le-ltb k n h) (
 
 unfoldable pub shape_of : List ℤ → Checked
 shape_of l =
-    pick (stray_of l) (length l) (Refused (refusal.Reach (12 + 2 * stray_of l)))
-    (pick (same_of (ring l)) (ring l).size (Refused (refusal.Same (same_of (ring l))))
-    (pick (fold_of (ring l)) (ring l).size (Refused (refusal.Fold (fold_of (ring l))))
-    (pick (pair_of (ring l)) (ring l).size (Refused (refusal.Meet (pair_of (ring l)) (row_of (ring l) (pair_of (ring l)))))
-    (cond (lt_z (pos 0) (area (ring l) (ring l).size)) Good (Refused refusal.Clockwise)))))
+    pick (stray_of l) (length l) (Err (refusal.Reach (12 + 2 * stray_of l)))
+    (pick (same_of (ring l)) (ring l).size (Err (refusal.Same (same_of (ring l))))
+    (pick (fold_of (ring l)) (ring l).size (Err (refusal.Fold (fold_of (ring l))))
+    (pick (pair_of (ring l)) (ring l).size (Err (refusal.Meet (pair_of (ring l)) (row_of (ring l) (pair_of (ring l)))))
+    (cond (lt_z (pos 0) (area (ring l) (ring l).size)) (Ok tt) (Err refusal.Clockwise)))))
 
 shape_finds : (l : List ℤ) → Finds (shape_checks l) (shape_of l)
 unfolding shape_of
@@ -182,7 +181,7 @@ shape_finds l =
   where
     last : Drawing l (same_of (ring l)) (fold_of (ring l)) (area (ring l) (ring l).size) → (ring l).size ≤ same_of (ring l) → (ring l).size ≤ fold_of (ring l)
         → ((i j : ℕ) → Meet (ring l) i j → ⊥) → (t : Bool) → lt_z (pos 0) (area (ring l) (ring l).size) ≡ t
-        → Finds (shape_checks l) (cond t Good (Refused refusal.Clockwise))
+        → Finds (shape_checks l) (cond t (Ok tt) (Err refusal.Clockwise))
     last d e f m true q = found_good l _ _ _ d e f m (lt_true _ _ q)
     last d e f m false q = found_clockwise l _ _ _ d e f m (lt_false _ _ q)
 
@@ -198,13 +197,13 @@ sized_decides l =
     (λ s. and_both _ _ (eq-eqb _ _ s.even) (and_both _ _ (le-leb _ _ s.corners.least) (le-leb _ _ s.corners.most)))
 
 unfoldable pub footprint_of : List ℤ → Checked
-footprint_of l = cond (sized_flag l) (shape_of l) (Refused refusal.Corners)
+footprint_of l = cond (sized_flag l) (shape_of l) (Err refusal.Corners)
 
 pub footprint_right : (l : List ℤ) → Finds (footprint_checks l) (footprint_of l)
 unfolding footprint_of footprint_checks sized_check
 footprint_right l = go (sized_flag l) (sized_decides l)
   where
-    go : (t : Bool) → Decides (Sized l) t → Finds (footprint_checks l) (cond t (shape_of l) (Refused refusal.Corners))
+    go : (t : Bool) → Decides (Sized l) t → Finds (footprint_checks l) (cond t (shape_of l) (Err refusal.Corners))
     go true h = footprint_finds l (shape_of l) h (shape_finds l)
     go false h = inl (h, refl)
 
@@ -230,7 +229,7 @@ abbrev pub band_of : Piece → ℕ
 band_of k = seek (λ j. not (band_flag k j)) 5
 
 unfoldable pub judge : Piece → Checked
-judge k = cond (sized_flag k.corners) (pick (band_of k) 5 (Refused (refusal.Reach (2 + 2 * band_of k))) (shape_of k.corners)) (Refused refusal.Corners)
+judge k = cond (sized_flag k.corners) (pick (band_of k) 5 (Err (refusal.Reach (2 + 2 * band_of k))) (shape_of k.corners)) (Err refusal.Corners)
 
 pub judge_right : (k : Piece) → Finds (piece_checks k) (judge k)
 unfolding judge piece_checks sized_check band_check
@@ -239,7 +238,7 @@ judge_right k = go (sized_flag k.corners) (sized_decides k.corners)
     slab : Seeks (λ j. BandNumber k j → ⊥) 5 (band_of k)
     slab = seeks _ _ 5 (λ j h. other (BandNumber k j) (band_flag k j) (band_decides k j))
 
-    go : (t : Bool) → Decides (Sized k.corners) t → Finds (piece_checks k) (cond t (pick (band_of k) 5 (Refused (refusal.Reach (2 + 2 * band_of k))) (shape_of k.corners)) (Refused refusal.Corners))
+    go : (t : Bool) → Decides (Sized k.corners) t → Finds (piece_checks k) (cond t (pick (band_of k) 5 (Err (refusal.Reach (2 + 2 * band_of k))) (shape_of k.corners)) (Err refusal.Corners))
     go true h = pick_finds (piece_checks k) (band_of k) 5 _ _ (λ a. inr (h, inl (_, first_found slab a, refl)))
         (λ a. piece_finds k (shape_of k.corners) h (none_found slab a) (shape_finds k.corners))
     go false h = inl (h, refl)
@@ -257,29 +256,29 @@ abbrev pub point_fault : Pt → ℕ
 point_fault p = seek (λ j. not (point_flag p j)) 2
 
 abbrev pub placing : Checked → Where → Placed
-placing (Refused r) w = placed.Refused r
-placing Good on = placed.On
-placing Good inside = placed.Inside
-placing Good outside = placed.Outside
+placing (Err r) w = Err r
+placing (Ok _) on = (Ok On)
+placing (Ok _) inside = (Ok Inside)
+placing (Ok _) outside = (Ok Outside)
 
 unfoldable pub place_of : Pt → List ℤ → Placed
-place_of p l = placing (pick (point_fault p) 2 (Refused (refusal.Reach (2 + 2 * point_fault p))) (footprint_of l)) (place (ring l) p)
+place_of p l = placing (pick (point_fault p) 2 (Err (refusal.Reach (2 + 2 * point_fault p))) (footprint_of l)) (place (ring l) p)
 
 pub place_lies : (p : Pt) (l : List ℤ) → Lies p l (place_of p l)
 unfolding place_of place_checks
-place_lies p l = go (pick (point_fault p) 2 (Refused (refusal.Reach (2 + 2 * point_fault p))) (footprint_of l)) (place (ring l) p) found (place_right (ring l) p)
+place_lies p l = go (pick (point_fault p) 2 (Err (refusal.Reach (2 + 2 * point_fault p))) (footprint_of l)) (place (ring l) p) found (place_right (ring l) p)
   where
     point : Seeks (λ j. PointNumber p j → ⊥) 2 (point_fault p)
     point = seeks _ _ 2 (λ j h. other (PointNumber p j) (point_flag p j) (point_decides p j))
 
-    found : Finds (place_checks p l) (pick (point_fault p) 2 (Refused (refusal.Reach (2 + 2 * point_fault p))) (footprint_of l))
+    found : Finds (place_checks p l) (pick (point_fault p) 2 (Err (refusal.Reach (2 + 2 * point_fault p))) (footprint_of l))
     found = pick_finds (place_checks p l) (point_fault p) 2 _ _ (λ a. inl (_, first_found point a, refl)) (λ a. place_finds p l (footprint_of l) (none_found point a) (footprint_right l))
 
     go : (c : Checked) (w : Where) → Finds (place_checks p l) c → Place (ring l) p w → Lies p l (placing c w)
-    go (Refused r) w f h = f
-    go Good on f h = (f, h)
-    go Good inside f h = (f, h)
-    go Good outside f h = (f, h)
+    go (Err r) w f h = f
+    go (Ok _) on f h = (f, h)
+    go (Ok _) inside f h = (f, h)
+    go (Ok _) outside f h = (f, h)
 
 -- ---- a run, and the verdict
 abbrev pub run_flag : Run → ℕ → Bool
@@ -304,7 +303,7 @@ abbrev pub run_fault : Run → ℕ
 run_fault r = seek (λ j. not (run_flag r j)) 7
 
 unfoldable pub run_of : Run → Checked
-run_of r = pick (run_fault r) 7 (Refused (refusal.Reach (2 + 2 * run_fault r))) Good
+run_of r = pick (run_fault r) 7 (Err (refusal.Reach (2 + 2 * run_fault r))) (Ok tt)
 
 run_right : (r : Run) → Finds (run_checks r) (run_of r)
 unfolding run_of run_checks
@@ -314,10 +313,10 @@ run_right r = pick_finds (run_checks r) (run_fault r) 7 _ _ (λ a. inl (_, first
     run = seeks _ _ 7 (λ j h. other (RunNumber r j) (run_flag r j) (run_decides r j))
 
 abbrev pub telling : Checked → Checked → Answer → Verdict
-telling (Refused x) c a = verdict.Refused x
-telling Good (Refused x) a = verdict.Refused x
-telling Good Good clear = verdict.Clear
-telling Good Good (blocked m) = verdict.Mark m
+telling (Err x) c a = Err x
+telling (Ok _) (Err x) a = Err x
+telling (Ok _) (Ok _) clear = (Ok None)
+telling (Ok _) (Ok _) (blocked m) = Ok (Some m)
 
 unfoldable pub verdict_of : Run → Piece → Verdict
 verdict_of r k = telling (run_of r) (judge k) (answer (code r k))
@@ -327,7 +326,7 @@ unfolding verdict_of verdict_checks
 verdict_tells r k = go (run_of r) (judge k) (answer (code r k)) (run_right r) (judge_right k) (λ p. verdict_right r k (run_known r p 6 (omega arith)))
   where
     go : (c d : Checked) (a : Answer) → Finds (run_checks r) c → Finds (piece_checks k) d → (Passes (run_checks r) → rules.Verdict r k a) → Tells r k (telling c d a)
-    go (Refused x) d a f g h = fault_left (run_checks r) (piece_checks k) _ f
-    go Good (Refused x) a f g h = fault_right (run_checks r) (piece_checks k) _ f g
-    go Good Good clear f g h = (passes_append (run_checks r) (piece_checks k) f g, h f)
-    go Good Good (blocked m) f g h = (passes_append (run_checks r) (piece_checks k) f g, h f)
+    go (Err x) d a f g h = fault_left (run_checks r) (piece_checks k) _ f
+    go (Ok _) (Err x) a f g h = fault_right (run_checks r) (piece_checks k) _ f g
+    go (Ok _) (Ok _) clear f g h = (passes_append (run_checks r) (piece_checks k) f g, h f)
+    go (Ok _) (Ok _) (blocked m) f g h = (passes_append (run_checks r) (piece_checks k) f g, h f)

@@ -1,4 +1,6 @@
 -- The worked examples that are in the proved set, and further ones: two lists, one claim, computed. Assumes nothing.
+use Rattle.std.specs.Prelude.{Ok, Err, Some, None}
+use Rattle.piece.specs.declared.spot.Spot.TheVariants.{Inside, Outside}
 use mathlib.Core.List.{List, [], ◌∷◌, ◌++◌}
 use Prim.Native.Nat.{ℕ}
 use lib.IntN.{ℤ, pos, negsuc}
@@ -9,15 +11,12 @@ use Rattle.rules.specs.Place.{Count}
 use Rattle.decide.specs.Crossing.{parity}
 use Rattle.decide.proofs.Parity.{tally, tally_counts}
 use Rattle.refusal.specs.Said.{Finds}
-use Rattle.refusal.specs.declared.Checked.{Checked}
-use Rattle.refusal.specs.declared.Checked.TheVariants.{Good, Refused}
+use Rattle.refusal.specs.Said.{Checked}
 use Rattle.refusal.specs.declared.Refusal.TheVariants.{Fold, Meet, Clockwise}
 use Rattle.decide.specs.Span.{clip, raise, lower, none}
 use Rattle.decide.specs.Touch.{on_line, within, on_edge, touch, touches, on_some, place, band_span, first_mark, code}
-use Rattle.piece.specs.declared.Placed.{Placed}
-use Rattle.piece.specs.declared.Placed.TheVariants.{Inside, Outside}
-use Rattle.piece.specs.declared.motion.Verdict.{Verdict}
-use Rattle.piece.specs.declared.motion.Verdict.TheVariants.{Clear, Mark}
+use Rattle.piece.specs.Place.{Placed}
+use Rattle.piece.specs.Tells.{Verdict}
 use Rattle.footprint.specs.Shape.{back}
 use Rattle.good.specs.Numbers.{pt}
 use Rattle.piece.specs.Place.{Lies}
@@ -64,45 +63,45 @@ clockwise = pos 0 ∷ pos 0 ∷ pos 0 ∷ pos 64 ∷ pos 64 ∷ pos 64 ∷ pos 6
 abbrev pub marked : List Row
 marked =
     -- (-64,32,16); (16,0,0); 4 | Q | 1024
-    told (run (negsuc 63) (pos 32) (pos 16) (pos 16) (pos 0) (pos 0) 4) q (Mark 1024)
+    told (run (negsuc 63) (pos 32) (pos 16) (pos 16) (pos 0) (pos 0) 4) q (Ok (Some 1024))
     -- same; 3 | Q | clear
-    ∷ told (run (negsuc 63) (pos 32) (pos 16) (pos 16) (pos 0) (pos 0) 3) q Clear
+    ∷ told (run (negsuc 63) (pos 32) (pos 16) (pos 16) (pos 0) (pos 0) 3) q (Ok None)
     -- (32,32,16); (0,0,0); 0 | Q | 0
-    ∷ told (run (pos 32) (pos 32) (pos 16) (pos 0) (pos 0) (pos 0) 0) q (Mark 0)
+    ∷ told (run (pos 32) (pos 32) (pos 16) (pos 0) (pos 0) (pos 0) 0) q (Ok (Some 0))
     -- (-32,32,16); (16,16,0); 8 | Q | 512, a corner grazed
-    ∷ told (run (negsuc 31) (pos 32) (pos 16) (pos 16) (pos 16) (pos 0) 8) q (Mark 512)
+    ∷ told (run (negsuc 31) (pos 32) (pos 16) (pos 16) (pos 16) (pos 0) 8) q (Ok (Some 512))
     -- (-64,32,16); (3,0,0); 22 | Q | 5461
-    ∷ told (run (negsuc 63) (pos 32) (pos 16) (pos 3) (pos 0) (pos 0) 22) q (Mark 5461)
+    ∷ told (run (negsuc 63) (pos 32) (pos 16) (pos 3) (pos 0) (pos 0) 22) q (Ok (Some 5461))
     -- (-64,32,40); (16,0,-1); 16 | Q | 2048
-    ∷ told (run (negsuc 63) (pos 32) (pos 40) (pos 16) (pos 0) (negsuc 0) 16) q (Mark 2048)
+    ∷ told (run (negsuc 63) (pos 32) (pos 40) (pos 16) (pos 0) (negsuc 0) 16) q (Ok (Some 2048))
     -- (-64,32,40); (17,0,-1); 16 | Q | clear
-    ∷ told (run (negsuc 63) (pos 32) (pos 40) (pos 17) (pos 0) (negsuc 0) 16) q Clear
+    ∷ told (run (negsuc 63) (pos 32) (pos 40) (pos 17) (pos 0) (negsuc 0) 16) q (Ok None)
     -- (-100,32,16); (255,0,0); 1 | Q | 100
-    ∷ told (run (negsuc 99) (pos 32) (pos 16) (pos 255) (pos 0) (pos 0) 1) q (Mark 100)
+    ∷ told (run (negsuc 99) (pos 32) (pos 16) (pos 255) (pos 0) (pos 0) 1) q (Ok (Some 100))
     -- (48,200,16); (0,-8,0); 21 | U | 5376
-    ∷ told (run (pos 48) (pos 200) (pos 16) (pos 0) (negsuc 7) (pos 0) 21) u (Mark 5376)
+    ∷ told (run (pos 48) (pos 200) (pos 16) (pos 0) (negsuc 7) (pos 0) 21) u (Ok (Some 5376))
     -- places in U: (48,64) outside
-    ∷ asked (pt (pos 48) (pos 64)) u Outside
+    ∷ asked (pt (pos 48) (pos 64)) u (Ok Outside)
     -- (48,16) inside
-    ∷ asked (pt (pos 48) (pos 16)) u Inside
+    ∷ asked (pt (pos 48) (pos 16)) u (Ok Inside)
     -- (32,-16) outside with two edges counted
-    ∷ asked (pt (pos 32) (negsuc 15)) u Outside
+    ∷ asked (pt (pos 32) (negsuc 15)) u (Ok Outside)
     ∷ counted (pt (pos 32) (negsuc 15)) u 2
     -- refused: (0,0) (64,64) (64,0) (0,64): 8 at 0, 2
-    ∷ checked crossed (Refused (Meet 0 2))
+    ∷ checked crossed (Err (Meet 0 2))
     -- (0,0) (64,0) (32,0) (32,64): 7 at 1
-    ∷ checked folded (Refused (Fold 1))
+    ∷ checked folded (Err (Fold 1))
     ∷ []
 
 -- further rows: two that the rules have without the mark, and that the pieces of the rows above are good
 abbrev pub further : List Row
 further =
     -- a trap: the first row with (7,0,0) and T 10 must give 2340
-    told (run (negsuc 63) (pos 32) (pos 16) (pos 7) (pos 0) (pos 0) 10) q (Mark 2340)
+    told (run (negsuc 63) (pos 32) (pos 16) (pos 7) (pos 0) (pos 0) 10) q (Ok (Some 2340))
     -- (0,0) (0,64) (64,64) (64,0): 9
-    ∷ checked clockwise (Refused Clockwise)
-    ∷ checked q Good
-    ∷ checked u Good
+    ∷ checked clockwise (Err Clockwise)
+    ∷ checked q (Ok tt)
+    ∷ checked u (Ok tt)
     ∷ []
 
 abbrev pub rows : List Row

@@ -1,4 +1,5 @@
 -- `book::answer` meets its contract: what a look finds, and else what is worked out, by the laws of Asking. Assumes nothing.
+use Rattle.std.specs.Prelude.{Some, None}
 use Rattle.std.proofs.Common.{◌≡◌, refl, ◌∙◌, List, ℕ, ◌+◌, ◌%◌, arith}
 use Rattle.rules.specs.Reach.{Run, Piece}
 use Rattle.rules.specs.Refusal.{Passes}
@@ -6,7 +7,6 @@ use Rattle.rules.specs.Good.{run_checks}
 use Rattle.rules.proofs.Reach.{run_known}
 use Rattle.good.specs.Numbers.{run_of, piece_of}
 use Rattle.seal.specs.Seal.{byte, sum}
-use Rattle.book.specs.declared.slot.Memory.TheVariants.{Code, Nothing}
 use Rattle.book.specs.Entry.{Slots, slots, key_length}
 use Rattle.book.specs.Steps.{Begun}
 use Rattle.book.proofs.Asking.{Asking, in_book, piece_fault, hits, works}
@@ -28,16 +28,16 @@ pub returns-in-Nothing : goal.returns-in-Nothing
 returns-in-Nothing c =
     let a = c.args in let p = c.requires in let r = run_of a.run in let k = piece_of a.slab a.corners.now in let d = c.lay-end in let h = c.home_of-at in
     let q = asking a.book.now d.new.front r k d.result h.result p.0 p.1.good d.ensures h.ensures in
-    works a.book.now d.new.front r k d.result h.result q Nothing c.in-Nothing.ensures c.work.new.book c.work.result refl c.work.ensures
+    works a.book.now d.new.front r k d.result h.result q None c.in-Nothing.ensures c.work.new.book c.work.result refl c.work.ensures
 
-pub returns-in-Refused : goal.returns-in-Refused
-returns-in-Refused c =
+pub returns-in-Err : goal.returns-in-Err
+returns-in-Err c =
     let a = c.args in let p = c.requires in let r = run_of a.run in let k = piece_of a.slab a.corners.now in let d = c.lay-end in let h = c.home_of-at in
     let q = asking a.book.now d.new.front r k d.result h.result p.0 p.1.good d.ensures h.ensures in
-    piece_fault a.book.now d.new.front r k d.result h.result q c.in-Refused.x c.in-Refused.ensures
+    piece_fault a.book.now d.new.front r k d.result h.result q c.in-Err.x c.in-Err.ensures
 
-pub returns-in-Good : goal.returns-in-Good
-returns-in-Good c =
+pub returns-in-Ok : goal.returns-in-Ok
+returns-in-Ok c =
     let a = c.args in let p = c.requires in let r = run_of a.run in let k = piece_of a.slab a.corners.now in let d = c.lay-end in let h = c.home_of-at in
     let q = asking a.book.now d.new.front r k d.result h.result p.0 p.1.good d.ensures h.ensures in
-    hits a.book.now d.new.front r k d.result h.result q (Code c.in-Code.c) c.in-Code.ensures c.in-Code.c refl c.in-Good.ensures
+    hits a.book.now d.new.front r k d.result h.result q (Some c.in-Ok.c) c.in-Ok.ensures c.in-Ok.c refl c.in-Ok.ensures

@@ -1,11 +1,11 @@
 -- `intake::intake` meets its contract: count and list are looked at, then every corner, and only then is the list written. Assumes nothing.
+use Rattle.std.specs.Prelude.{Ok, Err}
 use Rattle.std.proofs.Common.{◌≡◌, ◌*◌, ◌≤◌, refl, sym, subst, arith, length, take}
 use Rattle.whole.specs.Front.{fronted}
 use Rattle.rules.specs.Reach.{Corners}
 use Rattle.rules.proofs.Checks.{definite_demand}
 use Rattle.refusal.proofs.Unique.{written}
-use Rattle.refusal.specs.declared.Checked.{Checked}
-use Rattle.refusal.specs.declared.Checked.TheVariants.{Good, Refused}
+use Rattle.refusal.specs.Said.{Checked}
 use Rattle.intake.specs.Footprint.{put_checks, Intake, Gathered}
 use Rattle.intake.proofs.Footprint.{beyond_count, too_short, fault_in, all_good, put_fits, put_later}
 use Rattle.intake.proofs.intake.Goals as goal
@@ -25,7 +25,7 @@ returns-in_default c =
     let before = c.args.list.now in
     let r = c.in_default.field-0 in
     let n : Corners c.args.count = record { least = omega arith; most = omega arith } in
-    let e : c.gather-all.result.checked ≡ Refused r = c.in_default.is in
+    let e : c.gather-all.result.checked ≡ Err r = c.in_default.is in
     let found = subst (λ (q : Checked). Gathered c.args.corners c.args.count q c.gather-all.result.numbers) e c.gather-all.ensures in
     subst (λ (q : Checked). Intake c.args.corners c.args.count before q before) (sym e)
     record { finds = fault_in c.args.corners c.args.count (length before) n (omega arith) r found; list = refl }
@@ -38,7 +38,7 @@ returns c =
     let before = c.args.list.now in
     let n : Corners c.args.count = record { least = omega arith; most = omega arith } in
     let room : 2 * c.args.count ≤ length before = omega arith in
-    let e : c.gather-all.result.checked ≡ Good = c.in-Good.is in
+    let e : c.gather-all.result.checked ≡ (Ok tt) = c.in-Ok.is in
     let h = subst (λ (q : Checked). Gathered cs c.args.count q l) e c.gather-all.ensures in
     let front = take (2 * c.args.count) l in
     let fits = put_fits cs c.args.count l before h.1 n.most room in

@@ -1,5 +1,5 @@
 -- `baker_read_piece` meets its contract: a code other than 0 is a refusal, and a piece that was read has few enough corners to be put. Assumes nothing.
-use Rattle.refusal.specs.declared.Checked.{Checked}
+use Rattle.refusal.specs.Said.{Checked}
 use Rattle.coding.specs.Coded.{coded}
 use Rattle.coding.proofs.Codes.{by}
 use Rattle.baker.specs.Listed.{piece_found}

@@ -4,7 +4,7 @@ use Rattle.rules.specs.Reach.{Run}
 use Rattle.rules.specs.Refusal.{Passes}
 use Rattle.rules.specs.Good.{run_checks}
 use Rattle.rules.proofs.Checks.{never_both}
-use Rattle.refusal.specs.declared.Checked.{Checked}
+use Rattle.refusal.specs.Said.{Checked}
 use Rattle.refusal.proofs.Unique.{written}
 use Rattle.good.specs.Numbers.{run_of, piece_of}
 use Rattle.block.specs.Layout.{run_body_size, run_body}
@@ -40,17 +40,17 @@ module _ (r : Run) (front bytes : List ℕ) (z : length front ≡ code_at) (good
     part_2_long : length part_2 ≡ piece_length
     part_2_long = part_length (mid 2 run_body_size begun bytes) piece_at piece_length (omega (arith, headed_length r front bytes z laid))
 
-pub returns-in-Refused : goal.returns-in-Refused
-returns-in-Refused c =
+pub returns-in-Err : goal.returns-in-Err
+returns-in-Err c =
     let a = c.args in let q = c.requires in let w = c.write_run_body in let r = run_of a.run in let k = piece_of a.slab a.corners.now in
     let part = part_2 r a.front.now w.new.bytes q.long q.good w.result w.ensures in
     let n = part_2_long r a.front.now w.new.bytes q.long q.good w.result w.ensures in
-    begin_bad _ k _ (λ p. never_both (piece_body_asked part k) (definite_piece_body_asked part k) _ (good_asked k p part n) c.in-Refused.ensures.0)
+    begin_bad _ k _ (λ p. never_both (piece_body_asked part k) (definite_piece_body_asked part k) _ (good_asked k p part n) c.in-Err.ensures.0)
 
-pub returns-in-Good : goal.returns-in-Good
+pub returns-in-Ok : goal.returns-in-Ok
 unfolding piece_body_asked
-returns-in-Good c =
-    let a = c.args in let q = c.requires in let w = c.write_run_body in let v = c.write_piece_body in let r = run_of a.run in let t = c.in-Good.ensures in
+returns-in-Ok c =
+    let a = c.args in let q = c.requires in let w = c.write_run_body in let v = c.write_piece_body in let r = run_of a.run in let t = c.in-Ok.ensures in
     let b = laid r a.front.now w.new.bytes q.long q.good w.result w.ensures in
     let n = part_2_long r a.front.now w.new.bytes q.long q.good w.result w.ensures in
     begin r a.front.now w.new.bytes q.long b (piece_of a.slab a.corners.now) v.new.bytes (v.auto.bytes ∙ n) t.1 t.0.1.0.most _ (omega arith)
