@@ -8,8 +8,7 @@ use lib.ListN.{length}
 use Rattle.rules.specs.Refusal.{Passes}
 use Rattle.rules.proofs.Reach.{between_stable}
 use Rattle.rules.proofs.Checks.{definite_demand, never_both}
-use Rattle.refusal.specs.Said.{said}
-use Rattle.refusal.specs.Said.{Checked}
+use Rattle.refusal.specs.Said.{said, Checked}
 use Rattle.refusal.proofs.Unique.{written}
 use Rattle.pair.specs.Pair.{words, Halves, NumbersOf, paired_check, pairs_asked, WritePairsSays, ReadPairsSays}
 use Rattle.pair.proofs.Words.{numbers_one}

@@ -1,10 +1,8 @@
 -- Numbers of two bytes, low byte first, and what writing and reading them answers. Assumes nothing.
-use Rattle.std.specs.Prelude.{Ok, Err}
-use Rattle.std.specs.Prelude.{◌≡◌, List, [], ◌∷◌, ℕ, ◌+◌, ◌*◌, ◌-◌, ◌/◌, ◌%◌, ◌<◌, ℤ, pos, negsuc, length, get_or}
+use Rattle.std.specs.Prelude.{◌≡◌, List, [], ◌∷◌, ℕ, ◌+◌, ◌*◌, ◌-◌, ◌/◌, ◌%◌, ◌<◌, ℤ, pos, negsuc, length, get_or, Ok, Err}
 use Rattle.rules.specs.Reach.{Between}
 use Rattle.rules.specs.Refusal.{refuse, Check, Passes, Fault, demand, each}
-use Rattle.refusal.specs.Said.{said, Writes}
-use Rattle.refusal.specs.Said.{Checked}
+use Rattle.refusal.specs.Said.{said, Writes, Checked}
 
 -- ---- one number
 -- what two bytes hold, signed

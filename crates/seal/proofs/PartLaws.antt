@@ -13,9 +13,8 @@ use Rattle.seal.specs.Seal.{block_size, body_size, byte, sum, plain_sum, weighed
 use Rattle.seal.specs.Parts.{PartsFit, parts_asked, parts_block, WritePartsSays}
 use Rattle.seal.specs.Scan.{Alike, SumsAt, Clean}
 use Rattle.rules.specs.Refusal.{Check, Passes}
-use Rattle.refusal.specs.Said.{Writes}
+use Rattle.refusal.specs.Said.{Writes, Checked}
 use Rattle.refusal.proofs.Unique.{written}
-use Rattle.refusal.specs.Said.{Checked}
 use Rattle.seal.proofs.OneFault.{definite_parts_asked}
 use Rattle.seal.proofs.Bytes.{filled_at, filled_length, sum_same, sum_split, plain_same, weighed_same, block_at, block_sealed, block_is, block_same}
 use Rattle.seal.proofs.Replaced.{mid, part_length, mid_before, mid_in, mid_after}

@@ -4,9 +4,8 @@ use mathlib.Core.Bool.{Bool, true, false}
 use mathlib.Core.List.{List, [], ◌∷◌}
 use Prim.Native.Nat.{ℕ}
 use Rattle.whole.specs.Decide.{Decides}
-use Rattle.refusal.specs.Said.{Finds}
+use Rattle.refusal.specs.Said.{Finds, Checked}
 use Rattle.refusal.proofs.Unique.{finds_one, writes_one}
-use Rattle.refusal.specs.Said.{Checked}
 use Rattle.seal.specs.Seal.{length_check, block_checks, unnamed_check}
 use Rattle.seal.specs.Parts.{parts_asked, parts_block, WritePartsSays, PartsIn}
 use Rattle.seal.specs.Scan.{cleared}

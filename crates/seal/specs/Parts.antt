@@ -1,8 +1,7 @@
 -- A block of two parts: what is written, and when a block is that. `Writes` has one outcome by refusal/proofs/Unique `writes_one`. Assumes nothing.
 use Rattle.std.specs.Prelude.{◌≡◌, List, [], ◌∷◌, ◌++◌, ℕ, ◌+◌, ◌≤◌, length}
 use Rattle.rules.specs.Refusal.{refuse, Check, demand}
-use Rattle.refusal.specs.Said.{Writes}
-use Rattle.refusal.specs.Said.{Checked}
+use Rattle.refusal.specs.Said.{Writes, Checked}
 use Rattle.seal.specs.Seal.{body_size, filled, block_of, length_check}
 
 -- first bytes and others from byte `at` on, within 510
