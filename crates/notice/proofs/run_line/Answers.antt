@@ -5,4 +5,4 @@ use Rattle.notice.proofs.run_line.Goals as goal
 
 pub returns-clause-puts : goal.returns-clause-puts
 unfolding run_line
-returns-clause-puts c = then (rw c.row_of-row.ensures.0 at c.put_field-next.ensures.puts) c.put_byte.ensures
+returns-clause-puts c = then (rw c.from-row.ensures.0 at c.put_field-next.ensures.puts) c.put_byte.ensures
