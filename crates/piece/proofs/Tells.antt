@@ -1,7 +1,6 @@
 -- At most one verdict is told, and its code answers as the rules read a code. Assumes nothing.
-use Rattle.std.specs.Prelude.{Ok, Err, Some, None}
-use mathlib.Core.Path.{◌≡◌, refl}
-use mathlib.Core.Logic.{◌⊎◌, inl, inr}
+use Rattle.std.specs.Prelude.{Option, Ok, Err, Some, None}
+use mathlib.Core.Path.{◌≡◌, refl, sym, ap, ◌∙◌}
 use mathlib.Core.List.{List}
 use Prim.Native.Nat.{ℕ, ◌≤◌}
 use native.Mathlib.Omega.{arith}
@@ -10,36 +9,42 @@ use Rattle.rules.specs.Refusal.{Check, Passes, Fault}
 use Rattle.rules.specs.Good.{run_checks, piece_checks}
 use Rattle.rules.specs.Verdict as rules
 use Rattle.rules.specs.Verdict.{Answer, clear, blocked, verdict_checks, NONE, answer}
-use Rattle.rules.proofs.Checks.{AllDefinite, passes_left}
+use Rattle.rules.proofs.Checks.{AllDefinite, passes_left, fault_left, fault_right}
 use Rattle.rules.proofs.Good.{definite_verdict}
 use Rattle.rules.proofs.Reach.{run_known}
 use Rattle.rules.proofs.Verdict.{one_verdict, mark_small, mark_answers}
 use Rattle.refusal.specs.declared.Refusal.{Refusal}
 use Rattle.refusal.specs.Said.{said, Told}
 use Rattle.refusal.proofs.Unique.{told_one}
-use Rattle.piece.specs.Tells.{Verdict}
-use Rattle.piece.specs.Tells.{Coded}
-use Rattle.piece.specs.Tells.{answer_of, Tells, coded_of}
+use Rattle.piece.specs.Tells.{Verdict, Coded, answer_of, Tells, coded_of}
 
--- an answer or a refusal as the enum has it
-case : Answer ⊎ Refusal → Verdict
-case (inl clear) = (Ok None)
-case (inl (blocked m)) = Ok (Some m)
-case (inr x) = Err x
+-- an answer as the code has it, and back
+option_of : Answer → Option ℕ
+option_of clear = None
+option_of (blocked m) = Some m
 
-same : (v : Verdict) → case (answer_of v) ≡ v
-unfolding case
-same (Ok None) = refl
-same (Ok (Some m)) = refl
-same (Err x) = refl
+same : (a : Option ℕ) → option_of (answer_of a) ≡ a
+unfolding option_of
+same None = refl
+same (Some m) = refl
 
 -- one verdict is told of what checks pass, where P says one answer
 pub verdict_one : (cs : List Check) → AllDefinite cs → (P : Answer → Type 0) → ((a b : Answer) → P a → P b → a ≡ b)
-    → (v w : Verdict) → Told cs P (answer_of v) → Told cs P (answer_of w) → v ≡ w
-verdict_one = told_one answer_of case same
+    → (v w : Verdict) → Told cs (λ a. P (answer_of a)) v → Told cs (λ a. P (answer_of a)) w → v ≡ w
+verdict_one cs h P one v w = told_one cs h (λ a. P (answer_of a)) (λ a b p q. sym (same a) ∙ ap option_of (one _ _ p q) ∙ same b) v w
 
 pub one_told : (r : Run) (k : Piece) (v w : Verdict) → Tells r k v → Tells r k w → v ≡ w
 one_told r k = verdict_one (verdict_checks r k) (definite_verdict r k) (rules.Verdict r k) (one_verdict r k)
+
+-- ---- the checks of a verdict, by their parts
+module _ (r : Run) (k : Piece) where
+  pub run_refused : (x : Refusal) → Fault (run_checks r) (said x) → Fault (verdict_checks r k) (said x)
+  unfolding verdict_checks
+  run_refused x = fault_left (run_checks r) (piece_checks k) (said x)
+
+  pub piece_refused : (x : Refusal) → Passes (run_checks r) → Fault (piece_checks k) (said x) → Fault (verdict_checks r k) (said x)
+  unfolding verdict_checks
+  piece_refused x = fault_right (run_checks r) (piece_checks k) (said x)
 
 -- ---- codes
 -- a code that is told of a good run and a good piece

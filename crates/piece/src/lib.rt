@@ -31,6 +31,7 @@ pub fn place(x: i32, y: i32, corners: &[i32]) -> Result<Spot, Refusal>
 }
 
 // The verdict of a run and a piece, None where it is clear: the run is checked first, then the piece.
+#[tactic(auto, using(crate::proofs::Tells::run_refused, crate::proofs::Tells::piece_refused))]
 pub fn verdict(run: Run, slab: Slab, corners: &[i32]) -> Result<Option<u32>, Refusal>
     ensures { Tells (run_of run) (piece_of slab corners.now) result }
 {

@@ -23,18 +23,15 @@ use Rattle.rules.proofs.Checks.{first_found, passes_append, fault_left, fault_ri
 use Rattle.rules.specs.Good.{Sized, Same, Meet, FirstMeet, area, RunNumber, BandNumber, run_checks, sized_check, band_check, shape_checks, footprint_checks, piece_checks}
 use Rattle.rules.specs.Place.{Where, on, inside, outside, Place, PointNumber, place_checks}
 use Rattle.rules.proofs.Reach.{between_stable, run_known}
-use Rattle.refusal.specs.Said.{Finds}
-use Rattle.refusal.specs.Said.{Checked}
+use Rattle.refusal.specs.Said.{Checked, Finds}
 use Rattle.refusal.specs.declared.Refusal.TheVariants as refusal
 use Rattle.decide.specs.Touch.{ranged, place, code}
 use Rattle.decide.proofs.Verdict.{verdict_right}
 use Rattle.decide.proofs.Place.{range_yes, yes_range, place_right}
-use Rattle.piece.specs.Place.{Placed}
 use Rattle.whole.specs.Decide.{Decides, Seeks}
 use Rattle.footprint.specs.Shape.{Stray, back, Bend, Drawing, equal, bends, edges_share}
-use Rattle.piece.specs.Place.{Lies}
-use Rattle.piece.specs.Tells.{Tells}
-use Rattle.piece.specs.Tells.{Verdict}
+use Rattle.piece.specs.Place.{Placed, Lies}
+use Rattle.piece.specs.Tells.{Verdict, Tells}
 use Rattle.whole.proofs.Decide.{yes, no, truth, decides, none_found, Below, none_yet, one_more, stop, seeks_end}
 use Rattle.footprint.proofs.Shape.{shares_decides, equal_decides, bends_decides}
 use Rattle.footprint.proofs.Finds.{found_stray, found_same, found_fold, found_meet, found_clockwise, found_good, footprint_finds}
@@ -257,9 +254,9 @@ point_fault p = seek (λ j. not (point_flag p j)) 2
 
 abbrev pub placing : Checked → Where → Placed
 placing (Err r) w = Err r
-placing (Ok _) on = (Ok On)
-placing (Ok _) inside = (Ok Inside)
-placing (Ok _) outside = (Ok Outside)
+placing (Ok _) on = Ok On
+placing (Ok _) inside = Ok Inside
+placing (Ok _) outside = Ok Outside
 
 unfoldable pub place_of : Pt → List ℤ → Placed
 place_of p l = placing (pick (point_fault p) 2 (Err (refusal.Reach (2 + 2 * point_fault p))) (footprint_of l)) (place (ring l) p)
@@ -315,7 +312,7 @@ run_right r = pick_finds (run_checks r) (run_fault r) 7 _ _ (λ a. inl (_, first
 abbrev pub telling : Checked → Checked → Answer → Verdict
 telling (Err x) c a = Err x
 telling (Ok _) (Err x) a = Err x
-telling (Ok _) (Ok _) clear = (Ok None)
+telling (Ok _) (Ok _) clear = Ok None
 telling (Ok _) (Ok _) (blocked m) = Ok (Some m)
 
 unfoldable pub verdict_of : Run → Piece → Verdict

@@ -10,17 +10,14 @@ use Rattle.rules.specs.Good.{piece_checks}
 use Rattle.rules.specs.Place.{Count}
 use Rattle.decide.specs.Crossing.{parity}
 use Rattle.decide.proofs.Parity.{tally, tally_counts}
-use Rattle.refusal.specs.Said.{Finds}
-use Rattle.refusal.specs.Said.{Checked}
+use Rattle.refusal.specs.Said.{Checked, Finds}
 use Rattle.refusal.specs.declared.Refusal.TheVariants.{Fold, Meet, Clockwise}
 use Rattle.decide.specs.Span.{clip, raise, lower, none}
 use Rattle.decide.specs.Touch.{on_line, within, on_edge, touch, touches, on_some, place, band_span, first_mark, code}
-use Rattle.piece.specs.Place.{Placed}
-use Rattle.piece.specs.Tells.{Verdict}
 use Rattle.footprint.specs.Shape.{back}
 use Rattle.good.specs.Numbers.{pt}
-use Rattle.piece.specs.Place.{Lies}
-use Rattle.piece.specs.Tells.{Tells}
+use Rattle.piece.specs.Place.{Placed, Lies}
+use Rattle.piece.specs.Tells.{Verdict, Tells}
 use Rattle.table.proofs.Judge.{seek_from, shape_of, footprint_of, judge, judge_right, place_of, place_lies, run_of, verdict_of, verdict_tells}
 
 -- a verdict told, a place asked, edges counted, or a piece checked, with the answer

@@ -7,7 +7,7 @@ use Rattle.rules.specs.Reach.{Run, Piece}
 use Rattle.rules.specs.Refusal.{Passes}
 use Rattle.rules.specs.Good.{run_checks, piece_checks}
 use Rattle.rules.specs.Verdict.{Verdict, verdict_checks, NONE, answer}
-use Rattle.rules.proofs.Checks.{passes_append, fault_left, fault_right}
+use Rattle.rules.proofs.Checks.{passes_append}
 use Rattle.rules.proofs.Reach.{run_known, piece_known}
 use Rattle.decide.specs.Touch.{code}
 use Rattle.decide.proofs.Verdict.{verdict_right}
@@ -23,29 +23,21 @@ module _ (r : Run) (k : Piece) (h : Passes (run_checks r)) (g : Passes (piece_ch
   right : Verdict r k (answer n)
   right = rw e (verdict_right r k (run_known _ h 6 (omega arith)))
 
-pub returns-in-Refused : goal.returns-in-Refused
-unfolding verdict_checks
-returns-in-Refused c = fault_left (run_checks (run_of c.args.run)) (piece_checks (piece_of c.args.slab c.args.corners.now)) _ c.in-Refused.ensures
-
-pub returns-in-Refused-then : goal.returns-in-Refused-then
-unfolding verdict_checks
-returns-in-Refused-then c = fault_right (run_checks (run_of c.args.run)) (piece_checks (piece_of c.args.slab c.args.corners.now)) _ c.in_default.ensures c.in-Refused-then.ensures
-
 pub code-mark-requires : goal.code-mark-requires
-code-mark-requires c = (run_known _ c.in_default.ensures, piece_known _ c.in_default-then.ensures)
+code-mark-requires c = (run_known _ c.in_ok-check_run.ensures, piece_known _ c.in_ok-check_piece.ensures)
 
 pub returns-then-mark : goal.returns-then-mark
 returns-then-mark c =
     let r = run_of c.args.run in
     let k = piece_of c.args.slab c.args.corners.now in
-    let h = c.in_default.ensures in
-    let g = c.in_default-then.ensures in
+    let h = c.in_ok-check_run.ensures in
+    let g = c.in_ok-check_piece.ensures in
     (passes r k h g _ c.code-mark.ensures, rw c.if-mark.true at (right r k h g _ c.code-mark.ensures))
 
 pub returns-else-mark : goal.returns-else-mark
 returns-else-mark c =
     let r = run_of c.args.run in
     let k = piece_of c.args.slab c.args.corners.now in
-    let h = c.in_default.ensures in
-    let g = c.in_default-then.ensures in
+    let h = c.in_ok-check_run.ensures in
+    let g = c.in_ok-check_piece.ensures in
     (passes r k h g _ c.code-mark.ensures, rw (ne_eqb c.code-mark.result NONE c.if-mark.false) at (right r k h g _ c.code-mark.ensures))
