@@ -56,13 +56,13 @@ module _ (file : List ℕ) (k : List ℤ → Piece) (before : List ℤ) where
   definite = definite_obj k (length before) file
 
   -- the same face, the same corners
-  drawn_one : (a b : List ℤ) (m n : ℕ) → Drawn file k before a m → Drawn file k before b n → (Ok m ≡ Ok n) × (a ≡ b)
+  drawn_one : (a b : List ℤ) (m n : ℕ) → Drawn file k before a m → Drawn file k before b n → (m ≡ n) × (a ≡ b)
   drawn_one a b m n f g =
       let e : f.points ≡ g.points = cc in
-      (ap Ok (f.count ∙ ap length e ∙ sym g.count), f.list ∙ ap (λ ps. fronted (corners ps) before) e ∙ sym g.list)
+      (f.count ∙ ap length e ∙ sym g.count, f.list ∙ ap (λ ps. fronted (corners ps) before) e ∙ sym g.list)
 
   pub obj_one : (a b : List ℤ) (r s : Outline) → ObjSays file k before a r → ObjSays file k before b s → (r ≡ s) × (a ≡ b)
-  obj_one a b (Ok m) (Ok n) f g = drawn_one a b m n f g
+  obj_one a b (Ok m) (Ok n) f g = let d = drawn_one a b m n f g in (ap Ok d.0, d.1)
   obj_one a b (Ok m) (Err y) f g = absurd (never_both checks definite (said y) f.passes g.0)
   obj_one a b (Err x) (Ok n) f g = absurd (never_both checks definite (said x) g.passes f.0)
   obj_one a b (Err x) (Err y) f g = (ap Err (refused_one checks definite x y f.0 g.0), f.1 ∙ sym g.1)

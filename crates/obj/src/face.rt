@@ -22,9 +22,7 @@ fn fit(entry: i32, corner: usize, axis: usize) -> Result<(), Refusal>
 fn fit_both(x: i32, y: i32, corner: usize) -> Result<(), Refusal>
     ensures { FitBoth x y corner result }
 {
-    if let Err(r) = fit(x, corner, 0) {
-        return Err(r);
-    }
+    fit(x, corner, 0)?;
     fit(y, corner, 1)
 }
 
@@ -40,7 +38,12 @@ fn keep(x: i32, y: i32, i: usize, numbers: &mut [i32])
 }
 
 // Every corner is looked at, however many there are.
-pub(crate) fn gather(line: &[u8], above: u16, table: &[i32], numbers: &mut [i32]) -> Result<usize, Refusal>
+pub(crate) fn gather(
+    line: &[u8],
+    above: u16,
+    table: &[i32],
+    numbers: &mut [i32],
+) -> Result<usize, Refusal>
     requires { Drafted line.now above table.now numbers.old }
     ensures { Gather line.now above table.now numbers.new result }
 {
@@ -53,9 +56,7 @@ pub(crate) fn gather(line: &[u8], above: u16, table: &[i32], numbers: &mut [i32]
     while from < line.len() {
         let x = table[2 * v];
         let y = table[2 * v + 1];
-        if let Err(r) = fit_both(x, y, i) {
-            return Err(r);
-        }
+        fit_both(x, y, i)?;
         keep(x, y, i, numbers);
         let next = next_corner(line, to, above);
         from = next.from;

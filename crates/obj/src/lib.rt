@@ -17,13 +17,6 @@ mod face;
 mod pass;
 mod text;
 
-// The corner count, or the refusal.
-#[derive(Clone, Copy)]
-pub enum Outline {
-    Corners(usize),
-    Refused(Refusal),
-}
-
 // The footprint of a file, with the band and velocity given, into a lent list, x then y. The list changes only where nothing is refused.
 pub fn footprint(file: &[u8], slab: Slab, list: &mut [i32]) -> Result<usize, Refusal>
     ensures { ObjSays file.now (piece_of slab) list.old list.new result }
@@ -32,14 +25,18 @@ pub fn footprint(file: &[u8], slab: Slab, list: &mut [i32]) -> Result<usize, Ref
         return Err(Refusal::Length);
     }
     let mut table = [0i32; 16384];
-    match scan(file, &mut table) {
-        Err(x) => Err(x),
-        Ok(seen) => trace(file, seen, &table, slab, list),
-    }
+    let seen = scan(file, &mut table)?;
+    trace(file, seen, &table, slab, list)
 }
 
 // The face that was seen: its corners, then the piece that they are, then the list.
-fn trace(file: &[u8], seen: Seen, table: &[i32], slab: Slab, list: &mut [i32]) -> Result<usize, Refusal>
+fn trace(
+    file: &[u8],
+    seen: Seen,
+    table: &[i32],
+    slab: Slab,
+    list: &mut [i32],
+) -> Result<usize, Refusal>
     requires { (length file.now ≤ 65536) × (length table.now ≡ 16384) × Scanned file.now seen table.now }
     ensures { ObjSays file.now (piece_of slab) list.old list.new result }
 {
@@ -49,26 +46,18 @@ fn trace(file: &[u8], seen: Seen, table: &[i32], slab: Slab, list: &mut [i32]) -
     let from = seen.from;
     let to = seen.to;
     let mut numbers = [0i32; 128];
-    match gather(&file[from..to], seen.above as u16, table, &mut numbers) {
-        Err(x) => Err(x),
-        Ok(n) => {
-            if 64 < n {
-                return Err(Refusal::Corners);
-            }
-            draw(&numbers[..2 * n], slab, list)
-        }
+    let n = gather(&file[from..to], seen.above as u16, table, &mut numbers)?;
+    if 64 < n {
+        return Err(Refusal::Corners);
     }
+    draw(&numbers[..2 * n], slab, list)
 }
 
 // Corners that were taken, as a piece and into the list.
 fn draw(corners: &[i32], slab: Slab, list: &mut [i32]) -> Result<usize, Refusal>
     ensures { Draws (piece_of slab) corners.now list.old list.new result }
 {
-    if let Err(x) = check_piece(slab, corners) {
-        return Err(x);
-    }
-    if let Err(x) = put(corners, list) {
-        return Err(x);
-    }
+    check_piece(slab, corners)?;
+    put(corners, list)?;
     Ok(corners.len() / 2)
 }

@@ -16,14 +16,15 @@ pub(crate) struct Seen {
     pub(crate) above: usize,
 }
 
-#[derive(Clone, Copy)]
-pub(crate) enum Stepped {
-    Next(Seen),
-    Refused(Refusal),
-}
-
 // A line of the file: 14, then 16, then 15; a vertex takes two places of the table.
-fn step(file: &[u8], at: usize, stop: usize, line: usize, seen: Seen, table: &mut [i32]) -> Result<Seen, Refusal>
+fn step(
+    file: &[u8],
+    at: usize,
+    stop: usize,
+    line: usize,
+    seen: Seen,
+    table: &mut [i32],
+) -> Result<Seen, Refusal>
     requires { LineNext file.now at stop line seen table.old }
     ensures stepping { Stepping file.now stop line table.new result }
     ensures table_len_unchanged { length table.new ≡ length table.old }
@@ -79,12 +80,7 @@ pub(crate) fn scan(file: &[u8], table: &mut [i32]) -> Result<Seen, Refusal>
     while at <= file.len() {
         let end = feed(file, at);
         let stop = line_end(file, at, end);
-        match step(file, at, stop, line, seen, table) {
-            Err(x) => return Err(x),
-            Ok(s) => {
-                seen = s;
-            }
-        }
+        seen = step(file, at, stop, line, seen, table)?;
         at = end + 1;
         line += 1;
     }

@@ -7,6 +7,7 @@ use native.Mathlib.Omega.{arith}
 use borrow.Author.Tests.{not-true, not-false}
 use lib.IntN.{ℤ}
 use lib.ListN.{length}
+use Rattle.std.proofs.lemmas.Result.{err_from_is_err_and}
 use Rattle.good.specs.Numbers.{piece_of}
 use Rattle.line.specs.Text.{lines}
 use Rattle.obj.specs.declared.pass.Seen.{Seen}
@@ -27,18 +28,19 @@ returns-then-not-seen c =
 pub returns-then-n-gt64 : goal.returns-then-n-gt64
 returns-then-n-gt64 c =
     let s = c.requires.2 in let f = faced _ _ _ s c.if-not-seen.false in
-    let w = c.in-Corners.ensures f.vertices f.indices f.count f.line f.tabled in let m = w.count in
+    let w = c.in_ok-n.ensures f.vertices f.indices f.count f.line f.tabled in let m = w.count in
     (too_many _ _ _ c.requires.0 s.passes _ f.face w.passes (λ l. refl) (omega arith), refl)
 
-pub returns-in-Refused : goal.returns-in-Refused
-returns-in-Refused c =
+pub returns-in_err-n : goal.returns-in_err-n
+returns-in_err-n c =
+    let p = err_from_is_err_and c.from_residual.result c.from_residual.ensures.1 in
     let s = c.requires.2 in let f = faced _ _ _ s c.if-not-seen.false in
-    (point_fault _ _ _ c.requires.0 s.passes _ f.face _ (c.in-Refused.ensures f.vertices f.indices f.count f.line f.tabled), refl)
+    rw (p.1, p.2) (point_fault _ _ _ c.requires.0 s.passes _ f.face _ (c.in_err-n.ensures f.vertices f.indices f.count f.line f.tabled), refl)
 
-pub returns-else-n-gt64 : goal.returns-else-n-gt64
-returns-else-n-gt64 c =
+pub returns : goal.returns
+returns c =
     let s = c.requires.2 in let f = faced _ _ _ s c.if-not-seen.false in
-    let w = c.in-Corners.ensures f.vertices f.indices f.count f.line f.tabled in
+    let w = c.in_ok-n.ensures f.vertices f.indices f.count f.line f.tabled in
     let k = piece_of c.args.slab in let before = c.args.list.now in let after = c.draw.new.list in let r = c.draw.result in
     draws_says _ k before after c.requires.0 s.passes _ f.face w.passes r
     (subst (λ l. Draws k l before after r) (gathered_corners _ _ _ w c.if-n-gt64.false) c.draw.ensures)

@@ -5,6 +5,7 @@ use native.Mathlib.Omega.{arith}
 use lib.IntN.{ℤ, pos}
 use lib.ListN.{length, get_or}
 use mir.Syntax.{w32}
+use Rattle.std.proofs.lemmas.Result.{err_from_is_err_and}
 use Rattle.whole.proofs.Range.{field}
 use Rattle.obj.proofs.Gather.{Gathering, gather_start, corner_below, gather_fault, gather_next, gather_end}
 use Rattle.obj.proofs.face.gather.Goals as goal
@@ -41,12 +42,14 @@ offset_bounds-table-v-in-loop-from c = let b = below c.loop-from.invariant c.loo
 pub bounds-table-v-in-loop-from : goal.bounds-table-v-in-loop-from
 bounds-table-v-in-loop-from c = places c.loop-from.invariant c.loop-from-test.true
 
-pub returns-in-Refused : goal.returns-in-Refused
-returns-in-Refused c =
+pub returns-in_err-fit_both : goal.returns-in_err-fit_both
+returns-in_err-fit_both c =
+    let p = err_from_is_err_and c.from_residual.result c.from_residual.ensures.1 in
     let table = c.args.table.now in let v = c.loop-from.v in
-    gather_fault _ _ _ _ _ _ _ _ c.loop-from.invariant c.loop-from-test.true _ _
+    rw (p.1, p.2)
+    (gather_fault _ _ _ _ _ _ _ _ c.loop-from.invariant c.loop-from-test.true _ _
     (field w32 (get_or table (2 * v) (pos 0)) (omega arith)) (field w32 (get_or table (2 * v + 1) (pos 0)) (omega arith))
-    _ c.in-Refused.ensures
+    _ c.in_err-fit_both.ensures)
 
 pub loop-from-preserved : goal.loop-from-preserved
 loop-from-preserved c =
@@ -54,7 +57,7 @@ loop-from-preserved c =
     rw c.keep.ensures
     (gather_next _ _ _ _ _ _ _ _ c.loop-from.invariant c.loop-from-test.true _ _
     (field w32 (get_or table (2 * v) (pos 0)) (omega arith)) (field w32 (get_or table (2 * v + 1) (pos 0)) (omega arith))
-    _ c.next_corner-next.ensures c.in_default.ensures)
+    _ c.next_corner-next.ensures c.in_ok-fit_both.ensures)
 
 pub returns : goal.returns
 returns c = gather_end _ _ _ _ _ _ _ _ c.loop-from.invariant c.loop-from-test.false
