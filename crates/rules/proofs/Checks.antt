@@ -1,13 +1,17 @@
 -- At most one refusal is the first fault, and none where every check passes. Assumes nothing.
-use mathlib.Core.Path.{◌≡◌, sym, ap, ◌∙◌}
+use Rattle.std.specs.Prelude.{Option, Some, None}
+use Rattle.std.specs.Bool.{then_some}
+use Rattle.std.specs.Option.{option_or}
+use mathlib.Core.Path.{◌≡◌, refl, sym, ap, subst, ◌∙◌}
+use mathlib.Core.Bool.{Bool, true, false}
 use mathlib.Core.Logic.{inl, inr, ⊎_elim}
 use mathlib.Core.List.{List, [], ◌∷◌, ◌++◌}
 use Prim.Native.Nat.{ℕ, zero, suc, ◌+◌, ◌-◌, ◌≤◌, ◌<◌}
 use native.Mathlib.Omega.{arith}
 use native.Mathlib.Nat.{add-suc, add-zero}
-use Rattle.whole.specs.Decide.{Seeks}
+use Rattle.whole.specs.Decide.{Decides, Seeks}
 use Rattle.whole.proofs.Order.{ℕ_or}
-use Rattle.rules.specs.Refusal.{Refusal, Check, Passes, Fault, demand, First, each, in_turn}
+use Rattle.rules.specs.Refusal.{Refusal, Check, Passes, Fault, demand, First, Sought, each, in_turn}
 
 -- ---- the first of several
 -- the same index, from what rules out an earlier one each way
@@ -20,6 +24,32 @@ first_one Bad n i j f g = only i j (λ h. g.before i h f.bad) (λ h. f.before j 
 -- what a search finds is the first
 pub first_found : {Bad : ℕ → Type 0} {n r : ℕ} → Seeks Bad n r → r < n → First Bad n r
 first_found s h = record { below = h; bad = s.found h; before = λ j l. s.before j l (omega arith) }
+
+-- a search finds one thing
+pub sought_one : (Bad : ℕ → Type 0) (n : ℕ) (r s : Option ℕ) → Sought Bad n r → Sought Bad n s → r ≡ s
+sought_one Bad n None None f g = refl
+sought_one Bad n None (Some j) f g = absurd (f j g.below g.bad)
+sought_one Bad n (Some i) None f g = absurd (g i f.below f.bad)
+sought_one Bad n (Some i) (Some j) f g = ap Some (first_one Bad n i j f g)
+
+-- the same of what is Bad alike
+pub sought_map : (Bad Evil : ℕ → Type 0) (n : ℕ) (r : Option ℕ) → ((j : ℕ) → j < n → Bad j → Evil j) → ((j : ℕ) → j < n → Evil j → Bad j) → Sought Bad n r → Sought Evil n r
+sought_map Bad Evil n None f g s = λ j l e. s j l (g j l e)
+sought_map Bad Evil n (Some i) f g s = record { below = s.below; bad = f i s.below s.bad; before = λ j l e. s.before j l (g j (let b = s.below in omega arith) e) }
+
+-- of none, none is found
+pub sought_none : (Bad : ℕ → Type 0) → Sought Bad 0 None
+sought_none Bad = λ j l. absurd (omega arith)
+
+-- number n is looked at too: what was found of those before it stays
+pub sought_more : (Bad : ℕ → Type 0) (n : ℕ) (r : Option ℕ) (t : Bool) → Sought Bad n r → Decides (Bad n) t → Sought Bad (n + 1) (option_or r (then_some t n))
+sought_more Bad n (Some i) t s d = record { below = let b = s.below in omega arith; bad = s.bad; before = s.before }
+sought_more Bad n None true s d = record { below = omega arith; bad = d; before = s }
+sought_more Bad n None false s d = λ j l b. ⊎_elim (λ (h : n ≤ j). let e : j ≡ n = omega arith in d (subst Bad e b)) (λ (h : j < n). s j h b) (ℕ_or n j)
+
+-- the first that is Bad gives the refusal of a check of each
+pub each_fails : {Bad : ℕ → Type 0} {n i : ℕ} (r : ℕ → Refusal) → First Bad n i → (each Bad n r).fails (r i)
+each_fails {i = i} r f = (i, f, refl)
 
 -- ---- one check
 -- it does not pass and fail, and fails in one way
