@@ -25,10 +25,8 @@ pub fn put_word(out: &mut [u8], at: usize, word: &[u8]) -> usize
     ensures { Puts out.old at word.now out.new result }
 {
     let mut next = at;
-    let mut i = 0;
-    while i < word.len() {
-        next = put_byte(out, next, word[i]);
-        i += 1;
+    for &byte in word {
+        next = put_byte(out, next, byte);
     }
     next
 }
