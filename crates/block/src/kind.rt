@@ -1,11 +1,11 @@
 // What every block is looked at for: its length and check, then the bytes of its kind that are no numbers.
 ghost use Rattle.std.specs.Prelude.{◌≡◌, ◌++◌, length};
 ghost use Rattle.refusal.specs.Said.{Finds};
-ghost use Rattle.whole.specs.Decide.{Seeks};
+ghost use Rattle.rules.specs.Refusal.{Sought};
 ghost use Rattle.seal.specs.Seal.{block_size, block_checks};
 ghost use Rattle.block.specs.Reading.{Misspelt, header_bytes, run_bytes, piece_bytes, bytes_of};
 
-use crate::layout::{EDITION, MOST, PIECE, RUN, letter};
+use crate::layout::{EDITION, MOST, NAME, PIECE, RUN};
 use refusal::Refusal;
 use seal::{check_block, check_unnamed};
 
@@ -16,19 +16,14 @@ pub enum Kind {
     Piece,
 }
 
-fn first_letter(block: &[u8]) -> usize
+// The first of the name's letters that is another byte.
+fn first_letter(block: &[u8]) -> Option<usize>
     requires { length block.now ≡ block_size }
-    ensures { Seeks (Misspelt block.now) 4 result }
+    ensures { Sought (Misspelt block.now) 4 result }
 {
-    let mut i = 0;
-    while i < 4 {
-        let right = letter(i);
-        if block[i] != right {
-            return i;
-        }
-        i += 1;
-    }
-    i
+    NAME.iter()
+        .zip(block)
+        .position(|(letter, byte)| letter != byte)
 }
 
 // The bytes of a header, by rising offset.
@@ -36,8 +31,7 @@ fn check_header_bytes(block: &[u8]) -> Result<(), Refusal>
     requires { length block.now ≡ block_size }
     ensures { Finds (header_bytes block.now) result }
 {
-    let at = first_letter(block);
-    if at < 4 {
+    if let Some(at) = first_letter(block) {
         return Err(Refusal::Kind(at));
     }
     let edition = block[4];

@@ -1,4 +1,5 @@
 -- `block::kind::check_kind` meets its contract: length and check are looked at first. Assumes nothing.
+use Rattle.std.proofs.lemmas.Result.{err_from_is_err_and}
 use Rattle.rules.proofs.Checks.{fault_left}
 use Rattle.refusal.proofs.Finds.{finds_right}
 use Rattle.seal.specs.Seal.{block_checks}
@@ -7,10 +8,13 @@ use Rattle.block.proofs.kind.check_kind.Goals as goal
 
 pub check_bytes-requires : goal.check_bytes-requires
 unfolding block_checks
-check_bytes-requires c = c.in-Good.ensures.0
+check_bytes-requires c = c.in_ok-check_block.ensures.0
 
-pub returns-in-Refused : goal.returns-in-Refused
-returns-in-Refused c = let l = c.args.block.now in fault_left (block_checks l) (bytes_of c.args.kind l) _ c.in-Refused.ensures
+pub returns-in_err-check_block : goal.returns-in_err-check_block
+returns-in_err-check_block c =
+    let p = err_from_is_err_and c.from_residual.result c.from_residual.ensures.1 in
+    let l = c.args.block.now in
+    rw (p.1, p.2) (fault_left (block_checks l) (bytes_of c.args.kind l) _ c.in_err-check_block.ensures)
 
-pub returns-in-Good : goal.returns-in-Good
-returns-in-Good c = let l = c.args.block.now in finds_right (block_checks l) (bytes_of c.args.kind l) c.check_bytes.result c.in-Good.ensures c.check_bytes.ensures
+pub returns : goal.returns
+returns c = let l = c.args.block.now in finds_right (block_checks l) (bytes_of c.args.kind l) c.check_bytes.result c.in_ok-check_block.ensures c.check_bytes.ensures

@@ -1,5 +1,6 @@
 -- `block::runs::read_run` meets its contract: a block whose bytes pass holds the run that was read. Assumes nothing.
 use Rattle.std.proofs.Common.{[], ◌∷◌, ◌++◌}
+use Rattle.std.proofs.lemmas.Result.{err_from_is_err_and}
 use mathlib.Core.Logic.{inl}
 use Rattle.rules.specs.Good.{run_checks}
 use Rattle.rules.proofs.Checks.{passes_left, fault_left, fault_right}
@@ -11,20 +12,24 @@ use Rattle.block.proofs.runs.read_run.Goals as goal
 
 pub run_at-run-requires : goal.run_at-run-requires
 unfolding block_checks
-run_at-run-requires c = let l = c.args.block.now in (passes_left (block_checks l) (run_bytes l) c.in-Good.ensures).0
+run_at-run-requires c = let l = c.args.block.now in (passes_left (block_checks l) (run_bytes l) c.in_ok-check_kind.ensures).0
 
-pub returns-in-Refused : goal.returns-in-Refused
+pub returns-in_err-check_kind : goal.returns-in_err-check_kind
 unfolding run_block_checks
-returns-in-Refused c = let l = c.args.block.now in fault_left (block_checks l ++ run_bytes l) (inside (RunIn l) run_checks ∷ []) _ c.in-Refused.ensures
+returns-in_err-check_kind c =
+    let p = err_from_is_err_and c.from_residual.result c.from_residual.ensures.1 in
+    let l = c.args.block.now in
+    rw (p.1, p.2) (fault_left (block_checks l ++ run_bytes l) (inside (RunIn l) run_checks ∷ []) _ c.in_err-check_kind.ensures)
 
-pub returns-in-Refused-check_run : goal.returns-in-Refused-check_run
+pub returns-in_err-check_run : goal.returns-in_err-check_run
 unfolding run_block_checks
-returns-in-Refused-check_run c =
-    let l = c.args.block.now in let r = c.run_at-run.result in let p = c.in-Good.ensures in
-    fault_right (block_checks l ++ run_bytes l) (inside (RunIn l) run_checks ∷ []) _ p
-    (inl (run_of r, run_in l r c.run_at-run.ensures c.type_inv.block p, c.in-Refused-check_run.ensures))
+returns-in_err-check_run c =
+    let e = err_from_is_err_and c.from_residual-in_err-check_run.result c.from_residual-in_err-check_run.ensures.1 in
+    let l = c.args.block.now in let r = c.run_at-run.result in let p = c.in_ok-check_kind.ensures in
+    rw (e.1, e.2) (fault_right (block_checks l ++ run_bytes l) (inside (RunIn l) run_checks ∷ []) _ p
+    (inl (run_of r, run_in l r c.run_at-run.ensures c.type_inv.block p, c.in_err-check_run.ensures)))
 
-pub returns-in-Good-check_run : goal.returns-in-Good-check_run
-returns-in-Good-check_run c =
+pub returns : goal.returns
+returns c =
     let l = c.args.block.now in let r = c.run_at-run.result in
-    record { good = c.in-Good-check_run.ensures; same = (run_in l r c.run_at-run.ensures c.type_inv.block c.in-Good.ensures).same }
+    record { good = c.in_ok-check_run.ensures; same = (run_in l r c.run_at-run.ensures c.type_inv.block c.in_ok-check_kind.ensures).same }

@@ -1,5 +1,6 @@
 -- `block::runs::write_run` meets its contract: two bytes, and then the run's. Assumes nothing.
 use Rattle.std.proofs.Common.{refl, ap, ◌∙◌, List, ℕ, ◌∷◌, arith, length}
+use Rattle.std.proofs.lemmas.Result.{err_from_is_err_and}
 use mathlib.Core.List.{append-nil}
 use mathlib.Core.Logic.{inl, inr, ⊎_elim}
 use Rattle.good.specs.Numbers.{run_of}
@@ -13,14 +14,16 @@ pub returns-then-block-ne-SIZE : goal.returns-then-block-ne-SIZE
 unfolding run_asked
 returns-then-block-ne-SIZE c = (inl (c.if-block-ne-SIZE.true, refl), refl)
 
-pub returns-in-Refused : goal.returns-in-Refused
+pub returns-in_err-write_run_body : goal.returns-in_err-write_run_body
 unfolding run_asked run_body_asked
-returns-in-Refused c = (inr (c.if-block-ne-SIZE.false, ⊎_elim (λ h. absurd (h.0 refl)) (λ h. h.1) c.in-Refused.ensures.0), refl)
+returns-in_err-write_run_body c =
+    let p = err_from_is_err_and c.from_residual.result c.from_residual.ensures.1 in
+    rw (p.1, p.2) (inr (c.if-block-ne-SIZE.false, ⊎_elim (λ h. absurd (h.0 refl)) (λ h. h.1) c.in_err-write_run_body.ensures.0), refl)
 
-pub returns-in-Good : goal.returns-in-Good
+pub returns : goal.returns
 unfolding run_asked run_body_asked run_block
-returns-in-Good c =
-    let a = c.args in let r = run_of a.run in let n = c.if-block-ne-SIZE.false in let w = c.write_parts in let p = c.in-Good.ensures in
+returns c =
+    let a = c.args in let r = run_of a.run in let n = c.if-block-ne-SIZE.false in let w = c.write_parts in let p = c.in_ok-write_run_body.ensures in
     let e = append-nil c.write_run_body.new.bytes ∙ p.1 in let h = ap length e ∙ run_body_length r in
     front_writes _ 16 (omega (arith, h)) (omega arith) (run_asked a.block.now r) (run_kind ∷ 0 ∷ run_body r) a.block.now w.new.block w.result
     (ap (λ (l : List ℕ). run_kind ∷ 0 ∷ l) e) n (n, p.0.1) w.ensures

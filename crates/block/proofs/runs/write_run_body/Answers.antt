@@ -1,5 +1,6 @@
 -- `block::runs::write_run_body` meets its contract: the numbers of a good run are what two bytes hold. Assumes nothing.
 use Rattle.std.proofs.Common.{refl, sym, subst, List, arith}
+use Rattle.std.proofs.lemmas.Result.{err_from_is_err_and}
 use mathlib.Core.Logic.{inl, inr}
 use lib.IntN.{ℤ}
 use Rattle.good.specs.Numbers.{run_of}
@@ -15,16 +16,18 @@ unfolding run_body_asked
 returns-then-bytes-ne-RUN_BODY c = (inl (c.if-bytes-ne-RUN_BODY.true, refl), refl)
 
 pub overflow_cast-ticks : goal.overflow_cast-ticks
-overflow_cast-ticks c = let h = good_ticks (run_of c.args.run) c.in-Good.ensures in record { sfits = omega arith }
+overflow_cast-ticks c = let h = good_ticks (run_of c.args.run) c.in_ok-check_run.ensures in record { sfits = omega arith }
 
-pub returns-in-Refused : goal.returns-in-Refused
+pub returns-in_err-check_run : goal.returns-in_err-check_run
 unfolding run_body_asked
-returns-in-Refused c = (inr (c.if-bytes-ne-RUN_BODY.false, c.in-Refused.ensures), refl)
+returns-in_err-check_run c =
+    let p = err_from_is_err_and c.from_residual.result c.from_residual.ensures.1 in
+    rw (p.1, p.2) (inr (c.if-bytes-ne-RUN_BODY.false, c.in_err-check_run.ensures), refl)
 
-pub returns-in-Good : goal.returns-in-Good
+pub returns : goal.returns
 unfolding run_body_asked run_body
-returns-in-Good c =
-    let a = c.args in let w = c.write_pairs in let r = run_of a.run in let n = c.if-bytes-ne-RUN_BODY.false in let good = c.in-Good.ensures in
+returns c =
+    let a = c.args in let w = c.write_pairs in let r = run_of a.run in let n = c.if-bytes-ne-RUN_BODY.false in let good = c.in_ok-check_run.ensures in
     let f = subst (λ (zs : List ℤ). WritePairsSays zs a.bytes.now w.new.bytes w.result) (read_good a.run good) w.ensures in
     let p = pairs_written (run_numbers r) a.bytes.now w.new.bytes w.result f n (good_halves r good) in
     subst (WriteRunBodySays r a.bytes.now w.new.bytes) (sym p.0) ((n, good), p.1)
