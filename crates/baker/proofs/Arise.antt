@@ -1,6 +1,6 @@
 -- Every refusal that an export can give fits in the bits of its code. Assumes nothing.
 use Rattle.std.specs.Prelude.{Ok, Err}
-use Rattle.grid.specs.declared.NotTaken.TheVariants.{OffGrid, NotNumber, Beyond}
+use Rattle.grid.specs.declared.Taken.TheVariants.{Grid, OffGrid, NotNumber, Beyond}
 use mathlib.Core.Path.{sym, subst}
 use mathlib.Core.List.{List}
 use Prim.Native.Nat.{ℕ, ◌^◌, ◌≤◌, ◌<◌}
@@ -8,7 +8,7 @@ use native.Mathlib.Omega.{arith}
 use lib.Ieee.{Float}
 use Rattle.rules.specs.Refusal.{Refusal}
 use Rattle.intake.specs.declared.Corner.{Corner}
-use Rattle.grid.specs.Number.{Taken}
+use Rattle.grid.specs.declared.Taken.{Taken}
 use Rattle.intake.specs.Footprint.{Row, number_check, corner_at, corners_checks, intake_checks}
 use Rattle.coding.specs.Told.{Fits}
 use Rattle.coding.proofs.Arise.{Fit, AllFit, small, first, last, asks, fit_in_turn}
@@ -18,10 +18,10 @@ fit_number : (x : Float) (a b : ℕ) → a < 2 ^ 24 → b < 2 ^ 16 → Fit (numb
 fit_number x a b h k = record { fits = λ s f. by_row f.0 s f.2 }
   where
     by_row : (t : Taken) (s : Refusal) → Row t a b s → Fits s
-    by_row (Ok g) s r = absurd r
-    by_row (Err (OffGrid w)) s r = subst Fits (sym r) (small 13 a b (omega arith) h k)
-    by_row (Err NotNumber) s r = subst Fits (sym r) (small 11 a b (omega arith) h k)
-    by_row (Err Beyond) s r = subst Fits (sym r) (small 12 a b (omega arith) h k)
+    by_row (Grid g) s r = absurd r
+    by_row (OffGrid w) s r = subst Fits (sym r) (small 13 a b (omega arith) h k)
+    by_row NotNumber s r = subst Fits (sym r) (small 11 a b (omega arith) h k)
+    by_row Beyond s r = subst Fits (sym r) (small 12 a b (omega arith) h k)
 
 fit_corners : (cs : List Corner) (n : ℕ) → n ≤ 64 → AllFit (corners_checks cs n)
 fit_corners cs n h =

@@ -1,4 +1,5 @@
 -- An export as corners: an intake looks at no corner past its count, and an export's corners are its pairs. Assumes nothing.
+use Rattle.grid.specs.declared.Taken.TheVariants.{Grid}
 use Rattle.std.specs.Prelude.{Ok, Err}
 use mathlib.Core.Path.{◌≡◌, refl, sym, subst, ◌∙◌}
 use mathlib.Core.Logic.{inl, inr, ⊎_elim}
@@ -58,8 +59,8 @@ module _ (cs ds : List Corner) (n : ℕ) (same : (i : ℕ) → i < n → corner_
   later_same : (before : List ℤ) (r : Checked) (later : List ℤ) → Later cs n before r later → Later ds n before r later
   later_same before (Ok _) later f = (
     record {
-      x = λ i h. subst (λ (c : Corner). Answer c.x (Ok (get_or later (2 * i) (pos 0)))) (same i h) (f.0.x i h);
-      y = λ i h. subst (λ (c : Corner). Answer c.y (Ok (get_or later (2 * i + 1) (pos 0)))) (same i h) (f.0.y i h);
+      x = λ i h. subst (λ (c : Corner). Answer c.x (Grid (get_or later (2 * i) (pos 0)))) (same i h) (f.0.x i h);
+      y = λ i h. subst (λ (c : Corner). Answer c.y (Grid (get_or later (2 * i + 1) (pos 0)))) (same i h) (f.0.y i h);
     },
     f.1,
   )

@@ -1,6 +1,6 @@
 -- What a C caller reads from what each call gives, by the macros and by `told`, is that call's answer. Assumes nothing.
 use Rattle.std.specs.Prelude.{Ok, Err}
-use Rattle.grid.specs.declared.NotTaken.TheVariants.{OffGrid, NotNumber, Beyond}
+use Rattle.grid.specs.declared.Taken.TheVariants.{Grid, OffGrid, NotNumber, Beyond}
 use Rattle.piece.specs.declared.spot.Spot.TheVariants.{On, Inside, Outside}
 use mathlib.Core.Bool.{Bool, true, false, cond}
 use mathlib.Core.List.{List}
@@ -33,7 +33,7 @@ use Rattle.block.specs.Reading.{HeaderRead}
 use Rattle.block.specs.Reading.{RunRead}
 use Rattle.piece_block.specs.declared.PieceRead.{PieceRead}
 use Rattle.grid.specs.Number.{Answer}
-use Rattle.grid.specs.Number.{Taken}
+use Rattle.grid.specs.declared.Taken.{Taken}
 use Rattle.line.specs.Text.{lines}
 use Rattle.obj.specs.File.{obj_checks, ObjSays}
 use Rattle.obj.specs.File.{Outline}
@@ -137,10 +137,10 @@ steps image place before s h = by_case s.found h
     by_case (found.Refused x b) g = fit_step image place (said_in x b) g.fault
 
 takes : (x : Float) (g : ℤ) (f : Float) (t : Taken) → Answer x t → Within (taken_one g f t).says
-takes x g f (Ok k) h = omega arith
-takes x g f (Err (OffGrid w)) h = omega arith
-takes x g f (Err NotNumber) h = omega arith
-takes x g f (Err Beyond) h = omega arith
+takes x g f (Grid k) h = omega arith
+takes x g f (OffGrid w) h = omega arith
+takes x g f NotNumber h = omega arith
+takes x g f Beyond h = omega arith
 
 -- ---- plain numbers
 pub check_run_read : (r : Run) (c : ℕ) (h : CheckRunGives r c) → Reads c (checked_means h.answer)

@@ -1,13 +1,13 @@
 -- Exported numbers in and out: one number's answer, and a footprint as a list x, y, x, y .. Assumes nothing.
 use Rattle.std.specs.Prelude.{Ok, Err}
-use Rattle.grid.specs.declared.NotTaken.TheVariants.{OffGrid, NotNumber, Beyond}
+use Rattle.grid.specs.declared.Taken.TheVariants.{Grid, OffGrid, NotNumber, Beyond}
 use Rattle.std.specs.Prelude.{◌≡◌, List, [], ◌∷◌, ℕ, ◌+◌, ◌*◌, ◌/◌, ◌%◌, ◌<◌, ℤ, length, get_or, Float}
 use Rattle.std.specs.Float.{nan}
 use Rattle.rules.specs.Refusal.{Check, demand, refuse}
 use Rattle.refusal.specs.Said.{Finds}
 use Rattle.refusal.specs.Said.{Checked}
 use Rattle.intake.specs.declared.Corner.{Corner}
-use Rattle.grid.specs.Number.{Taken}
+use Rattle.grid.specs.declared.Taken.{Taken}
 use Rattle.intake.specs.Footprint.{corner_at, intake_checks, Later}
 use Rattle.coding.specs.Coded.{Meaning, value, Out, out}
 
@@ -21,10 +21,10 @@ lent g f = record { grid = g; floor = f }
 
 -- 0 and the grid number; 1 and the grid value below; 2 not a number; 3 out of reach. What is not named stays.
 abbrev pub taken_one : ℤ → Float → Taken → Out Meaning Lent
-taken_one g f (Ok k) = out (value 0) (lent k f)
-taken_one g f (Err (OffGrid w)) = out (value 1) (lent g w)
-taken_one g f (Err NotNumber) = out (value 2) (lent g f)
-taken_one g f (Err Beyond) = out (value 3) (lent g f)
+taken_one g f (Grid k) = out (value 0) (lent k f)
+taken_one g f (OffGrid w) = out (value 1) (lent g w)
+taken_one g f NotNumber = out (value 2) (lent g f)
+taken_one g f Beyond = out (value 3) (lent g f)
 
 -- the corners of an export x, y, x, y ..
 abbrev pub corners : List Float → List Corner

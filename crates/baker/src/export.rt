@@ -4,7 +4,7 @@ ghost use Rattle.baker.specs.Export.{Exported, Paired};
 ghost use Rattle.baker.specs.Calls.{TakeGives, IntakeGives};
 
 use coding::checked;
-use grid::{NotTaken, take};
+use grid::{Taken, take};
 use intake::Corner;
 use refusal::Refusal;
 
@@ -13,16 +13,16 @@ pub extern "C" fn baker_take(x: f32, grid: &mut i32, floor: &mut f32) -> u64
     ensures { TakeGives x grid.old floor.old grid.new floor.new result }
 {
     match take(x) {
-        Ok(k) => {
+        Taken::Grid(k) => {
             *grid = k;
             0
         }
-        Err(NotTaken::OffGrid(below)) => {
+        Taken::OffGrid(below) => {
             *floor = below;
             1
         }
-        Err(NotTaken::NotNumber) => 2,
-        Err(NotTaken::Beyond) => 3,
+        Taken::NotNumber => 2,
+        Taken::Beyond => 3,
     }
 }
 

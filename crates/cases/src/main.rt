@@ -3,7 +3,7 @@
 #![tactic(auto)]
 
 use good::{Run, Slab};
-use grid::NotTaken;
+use grid::Taken;
 use piece::{NONE, Spot};
 use refusal::{Refusal, Row};
 use std::io;
@@ -243,10 +243,10 @@ fn taken(
     below: f32,
 ) -> io::Result<Score> {
     let right = match grid::take(x) {
-        Ok(n) => (kind == 0) & (n == k),
-        Err(NotTaken::OffGrid(w)) => (kind == 1) & (w == below),
-        Err(NotTaken::NotNumber) => kind == 2,
-        Err(NotTaken::Beyond) => kind == 3,
+        Taken::Grid(n) => (kind == 0) & (n == k),
+        Taken::OffGrid(w) => (kind == 1) & (w == below),
+        Taken::NotNumber => kind == 2,
+        Taken::Beyond => kind == 3,
     };
     more(rt, s, name, right)
 }

@@ -1,22 +1,21 @@
 -- Worked examples, by their bits: 1024, 1024.0625, -0.03125, 0.03125, minus zero, a NaN and an infinity. Assumes nothing.
-use Rattle.std.specs.Prelude.{Ok, Err}
-use Rattle.grid.specs.declared.NotTaken.TheVariants.{OffGrid, NotNumber, Beyond}
 use mathlib.Core.Path.{◌≡◌, refl}
 use Prim.Native.Nat.{ℕ}
 use native.Mathlib.Omega.{arith}
 use lib.IntN.{pos, negsuc}
 use lib.Ieee.{binary32, fits, of_bits}
+use Rattle.grid.specs.declared.Taken.TheVariants.{Grid, OffGrid, NotNumber, Beyond}
 use Rattle.grid.specs.Number.{Answer}
 
-highest : Answer (of_bits binary32 0x4480_0000) (Ok (pos 16384))
+highest : Answer (of_bits binary32 0x4480_0000) (Grid (pos 16384))
 unfolding of_bits
 highest = (record { least = record { le = tt }; most = record { le = tt } }, refl)
 
-beyond : Answer (of_bits binary32 0x4480_0200) (Err Beyond)
+beyond : Answer (of_bits binary32 0x4480_0200) Beyond
 unfolding of_bits
 beyond = λ w. w.most.le
 
-below_zero : Answer (of_bits binary32 0xbd00_0000) (Err (OffGrid (of_bits binary32 0xbd80_0000)))
+below_zero : Answer (of_bits binary32 0xbd00_0000) (OffGrid (of_bits binary32 0xbd80_0000))
 unfolding of_bits fits
 below_zero = (
   record { least = record { le = tt }; most = record { le = tt } },
@@ -28,7 +27,7 @@ below_zero = (
   },
 )
 
-above_zero : Answer (of_bits binary32 0x3d00_0000) (Err (OffGrid (of_bits binary32 0)))
+above_zero : Answer (of_bits binary32 0x3d00_0000) (OffGrid (of_bits binary32 0))
 unfolding of_bits fits
 above_zero = (
   record { least = record { le = tt }; most = record { le = tt } },
@@ -40,14 +39,14 @@ above_zero = (
   },
 )
 
-minus_zero : Answer (of_bits binary32 0x8000_0000) (Ok (pos 0))
+minus_zero : Answer (of_bits binary32 0x8000_0000) (Grid (pos 0))
 unfolding of_bits
 minus_zero = (record { least = record { le = tt }; most = record { le = tt } }, refl)
 
-no_number : Answer (of_bits binary32 0xffc0_1234) (Err NotNumber)
+no_number : Answer (of_bits binary32 0xffc0_1234) NotNumber
 unfolding of_bits
 no_number = refl
 
-infinite : Answer (of_bits binary32 0xff80_0000) (Err Beyond)
+infinite : Answer (of_bits binary32 0xff80_0000) Beyond
 unfolding of_bits
 infinite = refl

@@ -10,7 +10,7 @@ use lib.Ieee.Fits.{eq→eqb}
 use lib.Ieee.Bits.{of_bits-to_bits}
 use lib.Ieee.Exact.{odd_sign}
 use Rattle.whole.proofs.Flag.{yes_of, no_of, by_flag}
-use Rattle.grid.specs.Number.{Taken}
+use Rattle.grid.specs.declared.Taken.{Taken}
 use Rattle.grid.specs.Number.{signed, Is, sixteenfold, Within, Scaled, Answer}
 use Rattle.grid.specs.Bits.{exponent, units, given, Says, HasBits, worth, BitsAnswer}
 use Rattle.grid.proofs.Number.{answer_worth}

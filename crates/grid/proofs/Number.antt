@@ -1,6 +1,4 @@
 -- What the tests of one number say of its answer. Assumes nothing.
-use Rattle.std.specs.Prelude.{Ok, Err}
-use Rattle.grid.specs.declared.NotTaken.TheVariants.{OffGrid, NotNumber, Beyond}
 use mathlib.Core.Path.{◌≡◌, refl, sym, subst, ◌∙◌}
 use mathlib.Core.Bool.{true, false, true≢false}
 use Prim.Native.Nat.{ℕ, ◌≤◌}
@@ -16,7 +14,8 @@ use Rattle.whole.proofs.Flag.{yes_of}
 use Rattle.whole.proofs.Range.{abs_by}
 use Rattle.whole.proofs.Fraction.{trans, less, apart, le_then_lt, lt_then_le}
 use Rattle.rules.specs.Reach.{Reach}
-use Rattle.grid.specs.Number.{Taken}
+use Rattle.grid.specs.declared.Taken.TheVariants.{Grid, OffGrid, NotNumber, Beyond}
+use Rattle.grid.specs.declared.Taken.{Taken}
 use Rattle.grid.specs.Number.{value, Is, grid, Within, Worth, Answer, sixteenfold, Scaled, Bounded, Floored}
 use Rattle.grid.proofs.Value.{≈-≼, ≈_sym, ≈_trans, within_same, lt_yes, lt_no, eq_yes, eq_no}
 use Rattle.grid.proofs.Exact.{int_is, export}
@@ -33,8 +32,8 @@ sixteenth = fin false 1 (negsuc 3)
 
 -- ---- the answer of a number is that of its value, however this is written
 pub worth_same : (u v : Frac) → u ≈ v → (t : Taken) → Worth u t → Worth v t
-worth_same u v e (Ok k) h = (within_same u v e h.0, ≈_trans (grid k) u v h.1 e)
-worth_same u v e (Err (OffGrid w)) h =
+worth_same u v e (Grid k) h = (within_same u v e h.0, ≈_trans (grid k) u v h.1 e)
+worth_same u v e (OffGrid w) h =
     let o = h.1 in (
       within_same u v e h.0,
       record {
@@ -44,8 +43,8 @@ worth_same u v e (Err (OffGrid w)) h =
         export = o.export;
       },
     )
-worth_same u v e (Err NotNumber) h = h
-worth_same u v e (Err Beyond) h = λ w. h (within_same v u (≈_sym u v e) w)
+worth_same u v e NotNumber h = h
+worth_same u v e Beyond h = λ w. h (within_same v u (≈_sym u v e) w)
 
 module _ (v : Frac) (t : Taken) where
   pub answer_of : (x : Float) → Is x v → Worth v t → Answer x t
@@ -59,17 +58,17 @@ module _ (v : Frac) (t : Taken) where
   answer_worth (fin s m e) i h = worth_same (value s m e) v i t h
 
 -- ---- not a number, and out of reach
-pub not_number : (x : Float) → ne x x ≡ true → Answer x (Err NotNumber)
-not_number x e = subst (λ (y : Float). Answer y (Err NotNumber)) (sym (differs_from_itself x (yes_of (ne x x) e))) refl
+pub not_number : (x : Float) → ne x x ≡ true → Answer x NotNumber
+not_number x e = subst (λ (y : Float). Answer y NotNumber) (sym (differs_from_itself x (yes_of (ne x x) e))) refl
 
-pub below_reach : (x : Float) → lt x lowest ≡ true → Answer x (Err Beyond)
+pub below_reach : (x : Float) → lt x lowest ≡ true → Answer x Beyond
 unfolding lt
 below_reach nan e = absurd (true≢false (sym e))
 below_reach (inf s) e = refl
 below_reach (fin s m e) h =
     λ w. apart (value s m e) (whole (negsuc 1023)) (lt_yes (value s m e) (whole (negsuc 1023)) (fin s m e) lowest refl refl h) w.least
 
-pub above_reach : (x : Float) → lt highest x ≡ true → Answer x (Err Beyond)
+pub above_reach : (x : Float) → lt highest x ≡ true → Answer x Beyond
 unfolding lt
 above_reach nan e = absurd (true≢false (sym e))
 above_reach (inf s) e = refl
@@ -144,16 +143,16 @@ module _ (x g : Float) (k : ℤ) (r : Inside x) (sc : Scaled x g) (f : Floored g
   is_whole_lem : Is (of_int binary32 k) (whole k)
   is_whole_lem = int_is k (omega (arith, floor_small))
 
-  pub on_grid : eq (of_int binary32 k) g ≡ true → Answer x (Ok k)
+  pub on_grid : eq (of_int binary32 k) g ≡ true → Answer x (Grid k)
   on_grid q =
-      answer_of v (Ok k) x r.is
+      answer_of v (Grid k) x r.is
       (r.within, times_eq k v.num v.den (eq_yes (whole k) (sixteenfold v) (of_int binary32 k) g is_whole_lem is_sixteenfold q))
 
-  pub off_grid : eq (of_int binary32 k) g ≡ false → Answer x (Err (OffGrid (mul binary32 (of_int binary32 k) sixteenth)))
+  pub off_grid : eq (of_int binary32 k) g ≡ false → Answer x (OffGrid (mul binary32 (of_int binary32 k) sixteenth))
   off_grid q =
       let b = f (sixteenfold v) is_sixteenfold in
       let apart' = eq_no (whole k) (sixteenfold v) (of_int binary32 k) g is_whole_lem is_sixteenfold q b.low in
-      answer_of v (Err (OffGrid (mul binary32 (of_int binary32 k) sixteenth))) x r.is (
+      answer_of v (OffGrid (mul binary32 (of_int binary32 k) sixteenth)) x r.is (
         r.within,
         record {
           k = k;
@@ -170,7 +169,7 @@ reach_low = all _ λ k k'. simp ring (omega arith)
 reach_high : (k : ℤ) → (k *ℤ pos 1) ≤ℤ (pos 1024 *ℤ pos 16) → k ≤ℤ pos 16384
 reach_high = all _ λ k k'. simp ring (omega arith)
 
-pub taken_reach : (x : Float) (k : ℤ) → Answer x (Ok k) → Reach k
+pub taken_reach : (x : Float) (k : ℤ) → Answer x (Grid k) → Reach k
 taken_reach nan k h = absurd (let z : ◌≡◌ {A = ℕ} 0 1 = cc in omega arith)
 taken_reach (inf s) k h = absurd (let z : ◌≡◌ {A = ℕ} 0 1 = cc in omega arith)
 taken_reach (fin s m e) k h =

@@ -1,6 +1,4 @@
 -- At most one answer for a number. Assumes nothing.
-use Rattle.std.specs.Prelude.{Ok, Err}
-use Rattle.grid.specs.declared.NotTaken.TheVariants.{OffGrid, NotNumber, Beyond}
 use mathlib.Core.Path.{◌≡◌, refl, sym, ap, subst, ◌∙◌}
 use lib.Dec.{lit<}
 use lib.IntN.{ℤ, pos, nat_abs, ◌+ℤ◌}
@@ -9,7 +7,8 @@ use lib.Ieee.{Float, nan, inf, fin}
 use Rattle.whole.specs.Fraction.{Frac, ◌≈◌}
 use Rattle.whole.proofs.Order.{antisym, clash, cancel_lt, cancel_next, cancel_eq, lt_le}
 use Rattle.whole.proofs.Fraction.{le_then_lt, lt_then_le}
-use Rattle.grid.specs.Number.{Taken}
+use Rattle.grid.specs.declared.Taken.{Taken}
+use Rattle.grid.specs.declared.Taken.TheVariants.{Grid, OffGrid, NotNumber, Beyond}
 use Rattle.grid.specs.Number.{value, grid, Off, Export, Worth, Answer}
 use Rattle.grid.proofs.Value.{≈-≼, ≈_sym}
 use Rattle.grid.proofs.Bits.{one_value}
@@ -37,19 +36,19 @@ one_off v w y o p =
     within q r = cancel_next q.k r.k (pos 16) (grid q.k).some (le_then_lt (grid q.k) v (grid (r.k +ℤ pos 1)) (lt_le _ _ q.above) r.next)
 
 pub one_worth : (v : Frac) (s t : Taken) → Worth v s → Worth v t → s ≡ t
-one_worth v (Ok j) (Ok k) h i = ap Ok (one_grid v j k h.1 i.1)
-one_worth v (Ok j) (Err (OffGrid w)) h i = absurd (between v j w h.1 i.1)
-one_worth v (Ok j) (Err NotNumber) h i = absurd i
-one_worth v (Ok j) (Err Beyond) h i = absurd (i h.0)
-one_worth v (Err (OffGrid w)) (Ok k) h i = absurd (between v k w i.1 h.1)
-one_worth v (Err (OffGrid w)) (Err (OffGrid y)) h i = ap (λ m. Err (OffGrid m)) (one_off v w y h.1 i.1)
-one_worth v (Err (OffGrid w)) (Err NotNumber) h i = absurd i
-one_worth v (Err (OffGrid w)) (Err Beyond) h i = absurd (i h.0)
-one_worth v (Err NotNumber) t h i = absurd h
-one_worth v (Err Beyond) (Ok k) h i = absurd (h i.0)
-one_worth v (Err Beyond) (Err (OffGrid y)) h i = absurd (h i.0)
-one_worth v (Err Beyond) (Err NotNumber) h i = absurd i
-one_worth v (Err Beyond) (Err Beyond) h i = refl
+one_worth v (Grid j) (Grid k) h i = ap Grid (one_grid v j k h.1 i.1)
+one_worth v (Grid j) (OffGrid w) h i = absurd (between v j w h.1 i.1)
+one_worth v (Grid j) NotNumber h i = absurd i
+one_worth v (Grid j) Beyond h i = absurd (i h.0)
+one_worth v (OffGrid w) (Grid k) h i = absurd (between v k w i.1 h.1)
+one_worth v (OffGrid w) (OffGrid y) h i = ap OffGrid (one_off v w y h.1 i.1)
+one_worth v (OffGrid w) NotNumber h i = absurd i
+one_worth v (OffGrid w) Beyond h i = absurd (i h.0)
+one_worth v NotNumber t h i = absurd h
+one_worth v Beyond (Grid k) h i = absurd (h i.0)
+one_worth v Beyond (OffGrid y) h i = absurd (h i.0)
+one_worth v Beyond NotNumber h i = absurd i
+one_worth v Beyond Beyond h i = refl
 
 -- two answers that both meet the definition are equal
 pub one_answer : (x : Float) (s t : Taken) → Answer x s → Answer x t → s ≡ t

@@ -1,9 +1,10 @@
 -- IEEE 754: what the 32 bits of a binary32 number say, by its sign, its exponent and its digits; and the answer that they have. Assumes nothing.
-use Rattle.grid.specs.declared.NotTaken.TheVariants.{NotNumber, Beyond}
-use Rattle.std.specs.Prelude.{◌≡◌, Bool, ℕ, zero, suc, ◌+◌, ◌*◌, ◌/◌, ◌%◌, ◌^◌, ◌<◌, leb, pos, Float, Err}
+use Rattle.std.specs.Prelude.{◌≡◌, Bool, ℕ, zero, suc, ◌+◌, ◌*◌, ◌/◌, ◌%◌, ◌^◌, ◌<◌, leb, pos, Float}
 use Rattle.std.specs.Float.{nan, inf}
 use Rattle.whole.specs.Fraction.{Frac}
-use Rattle.grid.specs.Number.{signed, Is, Taken, Worth}
+use Rattle.grid.specs.declared.Taken.{Taken}
+use Rattle.grid.specs.declared.Taken.TheVariants.{NotNumber, Beyond}
+use Rattle.grid.specs.Number.{signed, Is, Worth}
 
 -- the highest bit is the sign, the next eight are the exponent, the last 23 the digits
 abbrev pub minus : ℕ → Bool
@@ -41,5 +42,5 @@ worth b = given (minus b) (exponent b) (digits b)
 -- the answer of bits: that of the value that they give; where they give none, out of reach or not a number
 pub record BitsAnswer (b : ℕ) (t : Taken) : Type 0 where
   pub finite : exponent b < 255 → Worth (worth b) t
-  pub infinite : exponent b ≡ 255 → digits b ≡ 0 → t ≡ Err Beyond
-  pub none : exponent b ≡ 255 → (digits b ≡ 0 → ⊥) → t ≡ Err NotNumber
+  pub infinite : exponent b ≡ 255 → digits b ≡ 0 → t ≡ Beyond
+  pub none : exponent b ≡ 255 → (digits b ≡ 0 → ⊥) → t ≡ NotNumber

@@ -1,12 +1,12 @@
 -- "From the modelling package": what an exported number is worth, and its answer. Assumes nothing.
-use Rattle.grid.specs.declared.NotTaken.{NotTaken}
-use Rattle.grid.specs.declared.NotTaken.TheVariants.{OffGrid, NotNumber, Beyond}
-use Rattle.std.specs.Prelude.{◌≡◌, Bool, true, false, ℕ, ◌*◌, T, ℤ, pos, negsuc, neg_ℤ, ◌+ℤ◌, ◌*ℤ◌, Float, Result, Ok, Err}
+use Rattle.std.specs.Prelude.{◌≡◌, Bool, true, false, ℕ, ◌*◌, T, ℤ, pos, negsuc, neg_ℤ, ◌+ℤ◌, ◌*ℤ◌, Float}
 use Rattle.std.proofs.Common.{lt→ltb}
 use Rattle.std.specs.Float.{nan, inf, fin, binary32}
 use Rattle.std.specs.Float.Ieee.{fits, up, down}
 use Rattle.std.specs.Float.Ieee.Fits.{down_pos}
 use Rattle.whole.specs.Fraction.{Frac, ◌≼◌, ◌≺◌, ◌≈◌, whole}
+use Rattle.grid.specs.declared.Taken.{Taken}
+use Rattle.grid.specs.declared.Taken.TheVariants.{Grid, OffGrid, NotNumber, Beyond}
 
 -- n, or -n
 abbrev pub signed : Bool → ℕ → ℤ
@@ -45,21 +45,17 @@ pub record Off (v : Frac) (w : Float) : Type 0 where
   pub next : v ≺ grid (k +ℤ pos 1)
   pub export : Export k w
 
--- a grid number, or what keeps a number from the grid
-abbrev pub Taken : Type 0
-Taken = Result ℤ NotTaken
-
 -- the answer of a value
 abbrev pub Worth : Frac → Taken → Type 0
-Worth v (Ok k) = Within v × (grid k ≈ v)
-Worth v (Err (OffGrid w)) = Within v × Off v w
-Worth v (Err NotNumber) = ⊥
-Worth v (Err Beyond) = Within v → ⊥
+Worth v (Grid k) = Within v × (grid k ≈ v)
+Worth v (OffGrid w) = Within v × Off v w
+Worth v NotNumber = ⊥
+Worth v Beyond = Within v → ⊥
 
 -- the answer of a number
 abbrev pub Answer : Float → Taken → Type 0
-Answer nan t = t ≡ Err NotNumber
-Answer (inf s) t = t ≡ Err Beyond
+Answer nan t = t ≡ NotNumber
+Answer (inf s) t = t ≡ Beyond
 Answer (fin s m e) t = Worth (value s m e) t
 
 -- sixteen times a value

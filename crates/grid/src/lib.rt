@@ -3,9 +3,10 @@
 
 ghost use Rattle.grid.specs.Number.{Scaled, Bounded, Floored, Answer};
 
-// What keeps a number from the grid: off it, with the grid value at or below; not a number; out of reach.
-#[derive(Clone, Copy, PartialEq)]
-pub enum NotTaken {
+// The answer of one number, an enum of four cases as the specification asks: its grid number; the grid value at or below it; not a number; out of reach.
+#[derive(Clone, Copy)]
+pub enum Taken {
+    Grid(i32),
     OffGrid(f32),
     NotNumber,
     Beyond,
@@ -29,24 +30,24 @@ fn floor(scaled: f32) -> i32
     if back > scaled { next - 1 } else { next }
 }
 
-// The grid number of one number.
-pub fn take(x: f32) -> Result<i32, NotTaken>
+// One number.
+pub fn take(x: f32) -> Taken
     ensures { Answer x result }
 {
     if x != x {
-        return Err(NotTaken::NotNumber);
+        return Taken::NotNumber;
     }
     if x < -1024.0 {
-        return Err(NotTaken::Beyond);
+        return Taken::Beyond;
     }
     if x > 1024.0 {
-        return Err(NotTaken::Beyond);
+        return Taken::Beyond;
     }
     let scaled = sixteenfold(x);
     let k = floor(scaled);
     let back = k as f32;
     if back == scaled {
-        return Ok(k);
+        return Taken::Grid(k);
     }
-    Err(NotTaken::OffGrid(back * 0.0625))
+    Taken::OffGrid(back * 0.0625)
 }

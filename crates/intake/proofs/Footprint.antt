@@ -1,4 +1,5 @@
 -- The corners of a footprint one after the other: what a list holds after each, and what the checks find. Assumes nothing.
+use Rattle.grid.specs.declared.Taken.TheVariants.{Grid}
 use Rattle.std.specs.Prelude.{Ok, Err}
 use mathlib.Core.Path.{◌≡◌, refl, sym, subst, ◌∙◌}
 use mathlib.Core.Logic.{inl, inr}
@@ -23,8 +24,8 @@ use Rattle.grid.specs.Number.{Answer}
 use Rattle.intake.specs.Footprint.{corner_at, corners_checks, intake_checks, HoldsCorners, Later}
 
 -- a number that is taken as k is taken as what equals k
-pub taken : (v : Float) {j k : ℤ} → j ≡ k → Answer v (Ok k) → Answer v (Ok j)
-taken v e = subst (λ (z : ℤ). Answer v (Ok z)) (sym e)
+pub taken : (v : Float) {j k : ℤ} → j ≡ k → Answer v (Grid k) → Answer v (Grid j)
+taken v e = subst (λ (z : ℤ). Answer v (Grid z)) (sym e)
 
 -- ---- one more corner into a list
 module _ (cs : List Corner) (i : ℕ) (l : List ℤ) (x y : ℤ) where
@@ -45,13 +46,13 @@ module _ (cs : List Corner) (i : ℕ) (l : List ℤ) (x y : ℤ) where
     y_there : get_or later (2 * i + 1) (pos 0) ≡ y
     y_there = get_or-set_same first (2 * i + 1) y (pos 0) (simp length-set room)
 
-    pub hold_more : HoldsCorners cs i l → Answer (corner_at cs i).x (Ok x) → Answer (corner_at cs i).y (Ok y) → HoldsCorners cs (i + 1) later
+    pub hold_more : HoldsCorners cs i l → Answer (corner_at cs i).x (Grid x) → Answer (corner_at cs i).y (Grid y) → HoldsCorners cs (i + 1) later
     hold_more f a b =
         record {
-          x = below_more (λ k. Answer (corner_at cs k).x (Ok (get_or later (2 * k) (pos 0)))) i
+          x = below_more (λ k. Answer (corner_at cs k).x (Grid (get_or later (2 * k) (pos 0)))) i
               (λ k h. taken (corner_at cs k).x (kept (2 * k) (omega arith)) (f.x k h))
               (taken (corner_at cs i).x x_there a);
-          y = below_more (λ k. Answer (corner_at cs k).y (Ok (get_or later (2 * k + 1) (pos 0)))) i
+          y = below_more (λ k. Answer (corner_at cs k).y (Grid (get_or later (2 * k + 1) (pos 0)))) i
               (λ k h. taken (corner_at cs k).y (kept (2 * k + 1) (omega arith)) (f.y k h))
               (taken (corner_at cs i).y y_there b);
         }

@@ -1,6 +1,6 @@
 -- At most one outcome for a footprint. Assumes nothing.
 use Rattle.std.specs.Prelude.{Ok, Err}
-use Rattle.grid.specs.declared.NotTaken.TheVariants.{OffGrid, NotNumber, Beyond}
+use Rattle.grid.specs.declared.Taken.TheVariants.{Grid, OffGrid, NotNumber, Beyond}
 use mathlib.Core.Path.{◌≡◌, sym, subst, ◌∙◌}
 use mathlib.Core.Logic.{◌⊎◌, inl, inr, ⊎_elim}
 use mathlib.Core.List.{List}
@@ -18,22 +18,22 @@ use Rattle.rules.specs.Refusal.{refuse}
 use Rattle.rules.proofs.Checks.{Definite, AllDefinite, definite_demand, definite_in_turn}
 use Rattle.refusal.specs.Said.{Checked}
 use Rattle.intake.specs.declared.Corner.{Corner}
-use Rattle.grid.specs.Number.{Taken}
+use Rattle.grid.specs.declared.Taken.{Taken}
 use Rattle.grid.specs.Number.{Answer}
 use Rattle.intake.specs.Footprint.{put_checks, Put, Row, number_check, corner_at, corners_checks, intake_checks, HoldsCorners, Later, Intake}
 use Rattle.grid.proofs.Once.{one_answer}
 use Rattle.refusal.proofs.Unique.{finds_one, writes_one}
 
 one_row : (t : Taken) (a b : ℕ) (r s : rules.Refusal) → Row t a b r → Row t a b s → r ≡ s
-one_row (Ok k) a b r s h i = absurd h
-one_row (Err (OffGrid w)) a b r s h i = h ∙ sym i
-one_row (Err NotNumber) a b r s h i = h ∙ sym i
-one_row (Err Beyond) a b r s h i = h ∙ sym i
+one_row (Grid k) a b r s h i = absurd h
+one_row (OffGrid w) a b r s h i = h ∙ sym i
+one_row NotNumber a b r s h i = h ∙ sym i
+one_row Beyond a b r s h i = h ∙ sym i
 
 definite_number : (x : Float) (a b : ℕ) → Definite (number_check x a b)
 definite_number x a b =
     record {
-      never = λ r p f. subst (λ (t : Taken). Row t a b r) (one_answer x f.0 (Ok p.0) f.1 p.1) f.2;
+      never = λ r p f. subst (λ (t : Taken). Row t a b r) (one_answer x f.0 (Grid p.0) f.1 p.1) f.2;
       one = λ r s f g. one_row g.0 a b r s (subst (λ (t : Taken). Row t a b r) (one_answer x f.0 g.0 f.1 g.1) f.2) g.2;
     }
 
@@ -44,8 +44,8 @@ pub definite_intake : (cs : List Corner) (n size : ℕ) → AllDefinite (intake_
 unfolding intake_checks
 definite_intake cs n size = (definite_demand (Corners n) (refuse 5 0 0), (definite_demand (2 * n ≤ size) (refuse 10 0 0), definite_corners cs n))
 
-same_grid : (x : Float) (j k : ℤ) → Answer x (Ok j) → Answer x (Ok k) → j ≡ k
-same_grid x j k h i = let e : Ok j ≡ Ok k = one_answer x (Ok j) (Ok k) h i in cc
+same_grid : (x : Float) (j k : ℤ) → Answer x (Grid j) → Answer x (Grid k) → j ≡ k
+same_grid x j k h i = let e : Grid j ≡ Grid k = one_answer x (Grid j) (Grid k) h i in cc
 
 half : (j : ℕ) → (j ≡ 2 * (j / 2)) ⊎ (j ≡ 2 * (j / 2) + 1)
 half j = ⊎_elim (λ (h : j ≤ 2 * (j / 2)). inl (omega arith)) (λ (h : 2 * (j / 2) < j). inr (omega arith)) (ℕ_or j (2 * (j / 2)))

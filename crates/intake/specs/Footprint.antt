@@ -1,6 +1,6 @@
 -- "From the modelling package": a whole footprint into a lent list, corner by corner. Assumes nothing.
 use Rattle.std.specs.Prelude.{Ok, Err}
-use Rattle.grid.specs.declared.NotTaken.TheVariants.{OffGrid, NotNumber, Beyond}
+use Rattle.grid.specs.declared.Taken.TheVariants.{Grid, OffGrid, NotNumber, Beyond}
 use Rattle.std.specs.Prelude.{◌≡◌, List, [], ◌∷◌, ℕ, ◌+◌, ◌*◌, ◌<◌, ◌≤◌, ℤ, pos, length, get_or, Float}
 use Rattle.std.specs.Float.{nan}
 use Rattle.whole.specs.Front.{Stays, fronted}
@@ -10,7 +10,7 @@ use Rattle.rules.specs.Refusal.{Check, Fault, demand, refuse, in_turn}
 use Rattle.refusal.specs.Said.{said, Finds, Writes}
 use Rattle.refusal.specs.declared.Refusal.{Refusal}
 use Rattle.refusal.specs.Said.{Checked}
-use Rattle.grid.specs.Number.{Taken}
+use Rattle.grid.specs.declared.Taken.{Taken}
 use Rattle.intake.specs.declared.Corner.{Corner}
 use Rattle.intake.specs.declared.Numbers as declared
 use Rattle.intake.specs.declared.Numbers.TheVariants as numbers
@@ -18,14 +18,14 @@ use Rattle.grid.specs.Number.{Answer}
 
 -- the row of the table for an answer, with corner a and coordinate b
 abbrev pub Row : Taken → ℕ → ℕ → rules.Refusal → Type 0
-Row (Ok k) a b s = ⊥
-Row (Err (OffGrid w)) a b s = s ≡ refuse 13 a b
-Row (Err NotNumber) a b s = s ≡ refuse 11 a b
-Row (Err Beyond) a b s = s ≡ refuse 12 a b
+Row (Grid k) a b s = ⊥
+Row (OffGrid w) a b s = s ≡ refuse 13 a b
+Row NotNumber a b s = s ≡ refuse 11 a b
+Row Beyond a b s = s ≡ refuse 12 a b
 
 -- a number is taken, or refused by its answer
 abbrev pub number_check : Float → ℕ → ℕ → Check
-number_check x a b = record { passes = (k : ℤ) × Answer x (Ok k); fails = λ s. (t : Taken) × Answer x t × Row t a b s }
+number_check x a b = record { passes = (k : ℤ) × Answer x (Grid k); fails = λ s. (t : Taken) × Answer x t × Row t a b s }
 
 -- x before y
 abbrev pub corner_checks : Corner → ℕ → List Check
@@ -45,8 +45,8 @@ intake_checks cs n size = demand (Corners n) (refuse 5 0 0) ∷ demand (2 * n �
 
 -- the first n corners in a list, x then y
 pub record HoldsCorners (cs : List Corner) (n : ℕ) (l : List ℤ) : Type 0 where
-  pub x : (i : ℕ) → i < n → Answer (corner_at cs i).x (Ok (get_or l (2 * i) (pos 0)))
-  pub y : (i : ℕ) → i < n → Answer (corner_at cs i).y (Ok (get_or l (2 * i + 1) (pos 0)))
+  pub x : (i : ℕ) → i < n → Answer (corner_at cs i).x (Grid (get_or l (2 * i) (pos 0)))
+  pub y : (i : ℕ) → i < n → Answer (corner_at cs i).y (Grid (get_or l (2 * i + 1) (pos 0)))
 
 -- what the lent list holds afterwards: the corners, or what it held
 abbrev pub Later : List Corner → ℕ → List ℤ → Checked → List ℤ → Type 0
@@ -69,11 +69,11 @@ Put numbers before r later = Writes (put_checks numbers before) (fronted numbers
 -- ---- the steps
 -- r is the refusal of an answer that is not taken
 abbrev pub Refuses : Taken → ℕ → ℕ → Refusal → Type 0
-Refuses t a b r = ((k : ℤ) → t ≡ Ok k → ⊥) → Row t a b (said r)
+Refuses t a b r = ((k : ℤ) → t ≡ Grid k → ⊥) → Row t a b (said r)
 
 -- a corner's two numbers, or its fault
 abbrev pub Paired : Corner → ℕ → declared.Numbers → Type 0
-Paired c a (numbers.Both x y) = Answer c.x (Ok x) × Answer c.y (Ok y)
+Paired c a (numbers.Both x y) = Answer c.x (Grid x) × Answer c.y (Grid y)
 Paired c a (numbers.Refused r) = Fault (corner_checks c a) (said r)
 
 -- all corners' numbers, or the first fault

@@ -4,7 +4,7 @@
 ghost use Rattle.std.specs.Prelude.{◌≤◌};
 ghost use Rattle.intake.specs.Footprint.{Put, Refuses, Paired, Gathered, Intake};
 
-use grid::{NotTaken, take};
+use grid::{Taken, take};
 use refusal::Refusal;
 
 // A corner as exported.
@@ -15,12 +15,12 @@ pub struct Corner {
 }
 
 // The refusal of a number that is not taken: not a number, out of reach, or else off grid. A grid number is not asked about.
-fn refused(answer: Result<i32, NotTaken>, corner: usize, axis: usize) -> Refusal
+fn refused(answer: Taken, corner: usize, axis: usize) -> Refusal
     ensures { Refuses answer corner axis result }
 {
     match answer {
-        Err(NotTaken::NotNumber) => Refusal::NotNumber(corner, axis),
-        Err(NotTaken::Beyond) => Refusal::Beyond(corner, axis),
+        Taken::NotNumber => Refusal::NotNumber(corner, axis),
+        Taken::Beyond => Refusal::Beyond(corner, axis),
         _ => Refusal::OffGrid(corner, axis),
     }
 }
@@ -37,11 +37,11 @@ fn pair(corner: Corner, i: usize) -> Numbers
     ensures { Paired corner i result }
 {
     let first = take(corner.x);
-    let Ok(x) = first else {
+    let Taken::Grid(x) = first else {
         return Numbers::Refused(refused(first, i, 0));
     };
     let second = take(corner.y);
-    let Ok(y) = second else {
+    let Taken::Grid(y) = second else {
         return Numbers::Refused(refused(second, i, 1));
     };
     Numbers::Both(x, y)

@@ -1,6 +1,4 @@
 -- `grid::take` meets its contract: each way out says what the tests before it showed. Assumes nothing.
-use Rattle.std.specs.Prelude.{Ok, Err}
-use Rattle.grid.specs.declared.NotTaken.TheVariants.{OffGrid}
 use mathlib.Core.Path.{◌≡◌, sym, subst}
 use Prim.Native.Nat.{◌≤◌}
 use mathlib.Core.Bool.{true, false}
@@ -9,6 +7,7 @@ use lib.IntN.{ℤ, nat_abs}
 use mir.Val.{to_z, of_z}
 use mir.Syntax.{w32}
 use Rattle.whole.proofs.Range.{field}
+use Rattle.grid.specs.declared.Taken.TheVariants.{Grid, OffGrid}
 use Rattle.grid.specs.Number.{Answer}
 use Rattle.grid.proofs.Whole.{in_float_lem}
 use Rattle.grid.proofs.Number.{Inside, inside, not_number, below_reach, above_reach, bounded, sixteenth, floor_small, on_grid, off_grid}
@@ -53,10 +52,10 @@ module _ (s : After-floor-k) where
   small : nat_abs k ≤ 16384
   small = floor_small x g k in_reach s.sixteenfold-scaled.ensures s.floor-k.ensures
 
-  on : eq (of_int binary32 k) g ≡ true → Answer x (Ok k)
+  on : eq (of_int binary32 k) g ≡ true → Answer x (Grid k)
   on = on_grid x g k in_reach s.sixteenfold-scaled.ensures s.floor-k.ensures
 
-  off : eq (of_int binary32 k) g ≡ false → Answer x (Err (OffGrid (mul binary32 (of_int binary32 k) sixteenth)))
+  off : eq (of_int binary32 k) g ≡ false → Answer x (OffGrid (mul binary32 (of_int binary32 k) sixteenth))
   off = off_grid x g k in_reach s.sixteenfold-scaled.ensures s.floor-k.ensures
 
   -- the floor, as the machine has it
@@ -73,4 +72,4 @@ pub returns : goal.returns
 unfolding of_bits
 returns c =
     let s = (goal.at.returns c).After-floor-k in
-    subst (λ (k : ℤ). Answer (x s) (Err (OffGrid (mul binary32 (of_int binary32 k) sixteenth)))) (sym (seen s)) (off s (rw (seen s) at c.if-back-scaled.false))
+    subst (λ (k : ℤ). Answer (x s) (OffGrid (mul binary32 (of_int binary32 k) sixteenth))) (sym (seen s)) (off s (rw (seen s) at c.if-back-scaled.false))
