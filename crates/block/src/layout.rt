@@ -1,4 +1,5 @@
 // The numbers of the layout, each once; specs/Layout.antt says the same, and rules/specs/Reach of the most pieces.
+
 // 52 4F 4F 4D
 pub(crate) const NAME: [u8; 4] = [0x52, 0x4F, 0x4F, 0x4D];
 

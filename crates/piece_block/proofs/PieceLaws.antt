@@ -1,5 +1,5 @@
 -- A piece and its block: what a block holds, and that the block of a good piece passes. Assumes nothing.
-use Rattle.std.specs.Prelude.{Err}
+use Rattle.std.specs.Prelude.{None}
 use mathlib.Core.Path.{◌≡◌, refl, sym, ap, subst, ◌∙◌}
 use mathlib.Core.Logic.{inl, ⊎_elim}
 use mathlib.Core.List.{List, [], ◌∷◌, ◌++◌}
@@ -12,19 +12,14 @@ use lib.Signed.{le_z_yes}
 use mir.Syntax.{w8, w32}
 use mir.Val.{Fits, SFits, to_z, of_z}
 use mir.Facts.{to_z-of_z}
-use Rattle.whole.specs.Decide.{Seeks}
-use Rattle.whole.proofs.Decide.{onward}
 use Rattle.whole.proofs.Order.{ℕ_or}
 use Rattle.rules.specs.Reach.{Corners, Piece}
 use Rattle.rules.specs.Ring.{ring}
 use Rattle.rules.specs.Refusal as rules
-use Rattle.rules.specs.Refusal.{Passes, Fault}
+use Rattle.rules.specs.Refusal.{Passes, Fault, First, Sought}
 use Rattle.rules.specs.Good.{Sized, PieceKnown, piece_checks}
 use Rattle.rules.proofs.Reach.{piece_known}
 use Rattle.rules.proofs.Checks.{passes_append, passes_left, passes_right, fault_left, fault_right}
-use Rattle.refusal.specs.Said.{said}
-use Rattle.refusal.specs.declared.Refusal.{Refusal}
-use Rattle.refusal.specs.Said.{Checked}
 use Rattle.good.specs.declared.Slab.{Slab}
 use Rattle.good.specs.Numbers.{piece_of}
 use Rattle.piece_block.specs.declared.PieceRead.{PieceRead}
@@ -32,7 +27,7 @@ use Rattle.seal.specs.Seal.{block_size, body_size, byte, filled, block_of, block
 use Rattle.piece_block.specs.Layout.{piece_body_size, piece_numbers, piece_body, piece_block}
 use Rattle.block.specs.Layout.{piece_kind}
 use Rattle.pair.specs.Pair.{word, words, Half, Halves, Wide}
-use Rattle.piece_block.specs.Reading.{PieceIn, piece_block_checks, HoldsPiece, nothing, PieceFound, PieceSays, PieceGood, Held, piece_body_asked}
+use Rattle.piece_block.specs.Reading.{PieceIn, piece_block_checks, HoldsPiece, PieceGood, Held, piece_body_asked}
 use Rattle.block.specs.Reading.{inside, piece_bytes}
 use Rattle.piece_block.specs.Scan.{SlabAt, CornersAt}
 use Rattle.seal.proofs.Bytes.{repeated, filled_at, filled_length, block_length, block_at, block_sealed, block_same}
@@ -125,17 +120,23 @@ module _ (xs ys : List ℤ) where
   late : (j : ℕ) → Wide (xs ++ ys) (length xs + j) → Wide ys j
   late j w v = w (subst Half (sym (get_or-append-add xs ys j (pos 0))) v)
 
-  pub wide_early : (n r : ℕ) → length xs ≤ n → Seeks (Wide xs) (length xs) r → r < length xs → Seeks (Wide (xs ++ ys)) n r
-  wide_early n r g s h = record {
-    before = λ j l i w. s.before j l (omega arith) (early j (omega arith) w);
-    found = λ l v. s.found h (subst Half (get_or-append xs ys (pos 0) r h) v);
+  from_late : Sought (Wide xs) (length xs) None → (j : ℕ) → (length xs ≤ j → Wide ys (j - length xs) → ⊥) → Wide (xs ++ ys) j → ⊥
+  from_late f j g w =
+      ⊎_elim
+      (λ (h : length xs ≤ j). let e : j ≡ length xs + (j - length xs) = omega arith in g h (late (j - length xs) (subst (Wide (xs ++ ys)) e w)))
+      (λ (h : j < length xs). f j h (early j h w))
+      (ℕ_or (length xs) j)
+
+  -- none of xs is, and of ys this one, or none
+  pub wide_late : Sought (Wide xs) (length xs) None → (i : ℕ) → First (Wide ys) (length ys) i → First (Wide (xs ++ ys)) (length xs + length ys) (length xs + i)
+  wide_late f i s = record {
+    below = let b = s.below in omega arith;
+    bad = λ v. s.bad (subst Half (get_or-append-add xs ys i (pos 0)) v);
+    before = λ j l. from_late f j (λ k. s.before (j - length xs) (omega arith));
   }
 
-  pub wide_late : (r : ℕ) → ((j : ℕ) → j < length xs → Wide xs j → ⊥) → r ≤ length ys → Seeks (Wide ys) (length ys) r → Seeks (Wide (xs ++ ys)) (length xs + length ys) (length xs + r)
-  wide_late r f h s = record {
-    before = λ j l i. onward (Wide (xs ++ ys)) (Wide ys) (length xs) (length ys) r (λ j l w. f j l (early j l w)) (λ j l. late j) s r (omega arith) h j l;
-    found = λ l v. s.found (omega arith) (subst Half (get_or-append-add xs ys r (pos 0)) v);
-  }
+  pub wide_none : Sought (Wide xs) (length xs) None → Sought (Wide ys) (length ys) None → Sought (Wide (xs ++ ys)) (length xs + length ys) None
+  wide_none f s = λ j l. from_late f j (λ k. s (j - length xs) (omega arith))
 
 -- ---- the block of a good piece passes
 piece_bytes_lem : (k : Piece) → Sized k.corners → Passes (block_checks (piece_block k) ++ piece_bytes (piece_block k))
@@ -273,8 +274,8 @@ module _ (l : List ℕ) (b : Slab) (a : List ℤ) (bytes : (i : ℕ) → Fits w8
       (omega (arith, length-drop (2 * byte l 1) a, length-replicate (128 - 2 * byte l 1) (pos 0), corners.all))
       (λ i h. get_or-drop (2 * byte l 1) a i (pos 0) ∙ corners.rest (2 * byte l 1 + i) (omega arith) ∙ sym (repeated (pos 0) (128 - 2 * byte l 1) i))
 
-  pub piece_holds : (x : Checked) → HoldsPiece (record { found = x; slab = b; corners = a; count = byte l 1 }) (piece_of b (take (2 * byte l 1) a))
-  piece_holds x = record {
+  pub piece_holds : HoldsPiece (record { slab = b; corners = a; count = byte l 1 }) (piece_of b (take (2 * byte l 1) a))
+  piece_holds = record {
     numbers = refl;
     count = sym size_is;
     corners =
@@ -326,9 +327,6 @@ passed_long l p = p.0
 pub count_most : (l : List ℕ) → Passes (block_checks l ++ piece_bytes l) → byte l 1 ≤ 64
 unfolding piece_bytes
 count_most l p = (passes_right (block_checks l) (piece_bytes l) p).1.0.most
-
-pub says_refused : (l : List ℕ) (r : PieceRead) (x : Refusal) → r.found ≡ Err x → Fault (piece_block_checks l) (said x) → HoldsPiece r nothing → PieceSays l r
-says_refused l r x e f h = subst (PieceFound l r) (sym e) (record { fault = f; holds = h })
 
 -- ---- the corners that a reading holds
 module _ (l : List ℕ) (r : PieceRead) (g : PieceGood l r) where

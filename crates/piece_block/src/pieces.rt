@@ -1,6 +1,5 @@
 // A piece block.
 ghost use Rattle.std.specs.Prelude.{◌≡◌, [], ◌++◌, ◌+◌, ◌*◌, ◌≤◌, length, take};
-
 ghost use Rattle.rules.specs.Refusal.{Passes, Sought};
 ghost use Rattle.good.specs.Numbers.{piece_of};
 ghost use Rattle.piece_block.specs.Layout.{piece_body_size, piece_numbers, piece_front};
@@ -70,10 +69,11 @@ fn wide_in(slab: Slab, corners: &[i32]) -> Option<usize>
     ensures { Sought (Wide (piece_numbers (piece_of slab corners.now))) (5 + length corners.now) result }
 {
     let numbers = slab_numbers(slab);
-    match first_wide(&numbers) {
-        Some(wide) => Some(wide),
-        None => first_wide(corners).map(|wide| 5 + wide),
+    if let Some(wide) = first_wide(&numbers) {
+        return Some(wide);
     }
+    let wide = first_wide(corners)?;
+    Some(5 + wide)
 }
 
 // The piece block's bytes 1 to 267, of any numbers that fit in there; whether they are a good piece's is not checked.

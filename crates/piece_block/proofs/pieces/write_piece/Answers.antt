@@ -1,7 +1,10 @@
 -- `piece_block::pieces::write_piece` meets its contract: one byte, and then the piece's bytes. Assumes nothing.
 use Rattle.std.proofs.Common.{◌≡◌, refl, ap, ◌∙◌, List, ◌∷◌, ℕ, arith, length, replicate}
+use Rattle.std.proofs.lemmas.Result.{err_from_is_err_and}
 use mathlib.Core.List.{append-nil}
 use mathlib.Core.Logic.{inl, inr}
+use Rattle.rules.proofs.Checks.{never_both}
+use Rattle.refusal.specs.Said.{said}
 use Rattle.refusal.proofs.Unique.{written}
 use Rattle.good.specs.Numbers.{piece_of}
 use Rattle.seal.proofs.PartLaws.{front_writes}
@@ -17,14 +20,22 @@ pub returns-then-block-ne-SIZE : goal.returns-then-block-ne-SIZE
 unfolding piece_asked
 returns-then-block-ne-SIZE c = (inl (c.if-block-ne-SIZE.true, refl), refl)
 
-pub returns-in-Refused : goal.returns-in-Refused
+pub returns-in_err-check_piece : goal.returns-in_err-check_piece
 unfolding piece_asked
-returns-in-Refused c = (inr (c.if-block-ne-SIZE.false, c.in-Refused.ensures), refl)
+returns-in_err-check_piece c =
+    let p = err_from_is_err_and c.from_residual.result c.from_residual.ensures.1 in
+    rw (p.1, p.2) (inr (c.if-block-ne-SIZE.false, c.in_err-check_piece.ensures), refl)
 
-pub returns-in-Good : goal.returns-in-Good
+pub returns-in_err-write_piece_body : goal.returns-in_err-write_piece_body
+unfolding piece_asked
+returns-in_err-write_piece_body c =
+    let good = c.in_ok-check_piece.ensures in let zeros = replicate piece_body_size 0 in let k = piece_of c.args.slab c.args.corners.now in
+    absurd (never_both (piece_body_asked zeros k) (definite_piece_body_asked zeros k) (said c.in_err-write_piece_body.field-0.0) (good_asked k good zeros refl) c.in_err-write_piece_body.ensures.0)
+
+pub returns : goal.returns
 unfolding piece_asked piece_block
-returns-in-Good c =
-    let a = c.args in let k = piece_of a.slab a.corners.now in let good = c.in-Good.ensures in let n = c.if-block-ne-SIZE.false in
+returns c =
+    let a = c.args in let k = piece_of a.slab a.corners.now in let good = c.in_ok-check_piece.ensures in let n = c.if-block-ne-SIZE.false in
     let zeros = replicate piece_body_size 0 in let b = c.write_piece_body in let laid = b.new.bytes in let w = c.write_parts in
     let bytes : laid ≡ piece_body k = (written (piece_body_asked zeros k) (definite_piece_body_asked zeros k) (piece_body k) zeros laid b.result b.ensures (good_asked k good zeros refl)).1 in
     let long : length laid ≡ piece_body_size = ap length bytes ∙ piece_body_length k (good_held k good).few in

@@ -2,8 +2,6 @@
 use Rattle.std.proofs.Common.{refl, ◌∙◌, arith}
 use mathlib.Core.Logic.{inl, inr}
 use Rattle.rules.proofs.Reach.{between_stable}
-use Rattle.rules.proofs.Checks.{first_found}
-use Rattle.whole.proofs.Decide.{none_found}
 use Rattle.good.specs.Numbers.{piece_of}
 use Rattle.piece_block.specs.Reading.{piece_body_asked}
 use Rattle.piece_block.proofs.Bodies.{body_is}
@@ -21,14 +19,14 @@ pub returns-then-corners-gt128 : goal.returns-then-corners-gt128
 unfolding piece_body_asked
 returns-then-corners-gt128 c = (inr (c.if-bytes-ne-PIECE_BODY.false, inl (λ p. let m = p.most in omega arith, refl)), refl)
 
-pub returns-then-wide-corners : goal.returns-then-wide-corners
+pub returns-in-Some : goal.returns-in-Some
 unfolding piece_body_asked
-returns-then-wide-corners c = (
+returns-in-Some c = (
   inr (
     c.if-bytes-ne-PIECE_BODY.false,
     inr (
       record { even = c.if-corners-ne0.false; most = c.if-corners-gt128.false },
-      inl (c.wide_in-wide.result, first_found c.wide_in-wide.ensures c.if-wide-corners.true, refl),
+      inl (c.in-Some.wide, c.in-Some.ensures, refl),
     ),
   ),
   refl,
@@ -36,7 +34,7 @@ returns-then-wide-corners c = (
 
 pub lay_piece-requires : goal.lay_piece-requires
 lay_piece-requires c = (
-  record { few = c.if-corners-gt128.false; halves = λ j h. between_stable _ _ _ (none_found c.wide_in-wide.ensures c.if-wide-corners.false j (omega arith)) },
+  record { few = c.if-corners-gt128.false; halves = λ j h. between_stable _ _ _ (c.in_default.ensures j (omega arith)) },
   c.if-bytes-ne-PIECE_BODY.false,
 )
 
@@ -44,6 +42,6 @@ pub returns : goal.returns
 unfolding piece_body_asked
 returns c =
     let a = c.args in let long = c.if-bytes-ne-PIECE_BODY.false in let laid = c.lay_piece in (
-      (long, (record { even = c.if-corners-ne0.false; most = c.if-corners-gt128.false }, (none_found c.wide_in-wide.ensures c.if-wide-corners.false, tt))),
+      (long, (record { even = c.if-corners-ne0.false; most = c.if-corners-gt128.false }, (c.in_default.ensures, tt))),
       body_is (piece_of a.slab a.corners.now) laid.new.bytes _ _ refl (laid.auto.bytes ∙ long) laid.ensures c.clear.ensures,
     )
