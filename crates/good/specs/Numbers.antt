@@ -1,8 +1,9 @@
--- The run, the piece and the point that the numbers of a call say. Assumes nothing.
-use Rattle.std.specs.Prelude.{List, ℕ, zero, suc, ℤ}
+-- The run, the piece and the point that the numbers of a call say, and the check of numbers by their tests. Assumes nothing.
+use Rattle.std.specs.Prelude.{◌≡◌, Bool, true, false, List, [], ◌∷◌, ◌+◌, ◌*◌, ℤ, length, get_or}
 use Rattle.rules.specs.Reach as rules
 use Rattle.rules.specs.Reach.{Piece, Speed, run, piece}
 use Rattle.rules.specs.Ring.{Pt}
+use Rattle.rules.specs.Refusal.{Check, each, refuse}
 use Rattle.good.specs.declared.Run.{Run}
 use Rattle.good.specs.declared.Slab.{Slab}
 
@@ -15,8 +16,6 @@ piece_of b l = piece b.bottom b.top b.vx b.vy b.vz l
 abbrev pub pt : ℤ → ℤ → Pt
 pt x y = record { x = x; y = y }
 
--- the numbers of a velocity
-abbrev pub SpeedNumber : ℤ → ℤ → ℤ → ℕ → Type 0
-SpeedNumber x y z zero = Speed x
-SpeedNumber x y z (suc zero) = Speed y
-SpeedNumber x y z (suc (suc n)) = Speed z
+-- no test of numbers fails, by rising offset from 2
+abbrev pub tests_checks : List Bool → List Check
+tests_checks tests = each (λ j. get_or tests j true ≡ false) (length tests) (λ i. refuse 4 (2 + 2 * i) 0) ∷ []

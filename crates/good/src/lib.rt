@@ -7,7 +7,8 @@ ghost use Rattle.rules.specs.Place.{place_checks};
 ghost use Rattle.refusal.specs.Said.{Finds};
 ghost use Rattle.good.specs.Numbers.{run_of, piece_of, pt};
 
-use footprint::{check_footprint, sized};
+use crate::reach::{check_numbers, is_length, is_speed, is_top};
+use footprint::{check_footprint, reaches, sized};
 use refusal::Refusal;
 
 mod reach;
@@ -35,41 +36,41 @@ pub struct Slab {
 }
 
 // Whether a run is good.
-#[tactic(auto, using(crate::proofs::Finds::run_refused))]
 pub fn check_run(run: Run) -> Result<(), Refusal>
     ensures { Finds (run_checks (run_of run)) result }
 {
-    let k = reach::run_fault(run);
-    if k < 7 {
-        Err(Refusal::Reach(2 + 2 * k))
-    } else {
-        Ok(())
-    }
+    check_numbers(&[
+        reaches(run.x),
+        reaches(run.y),
+        reaches(run.z),
+        is_speed(run.vx),
+        is_speed(run.vy),
+        is_speed(run.vz),
+        is_length(run.ticks),
+    ])
 }
 
-// Whether a piece is good: the corners' count, the band's numbers, and then the footprint.
-#[tactic(auto, using(crate::proofs::Finds::piece_refused))]
+// Whether a piece is good: the corners' count, the band's numbers, and then the footprint. A top below the bottom counts as out of reach.
 pub fn check_piece(slab: Slab, corners: &[i32]) -> Result<(), Refusal>
     ensures { Finds (piece_checks (piece_of slab corners.now)) result }
 {
     if !sized(corners) {
         return Err(Refusal::Corners);
     }
-    let k = reach::slab_fault(slab);
-    if k < 5 {
-        return Err(Refusal::Reach(2 + 2 * k));
-    }
+    check_numbers(&[
+        reaches(slab.bottom),
+        is_top(slab.bottom, slab.top),
+        is_speed(slab.vx),
+        is_speed(slab.vy),
+        is_speed(slab.vz),
+    ])?;
     check_footprint(corners)
 }
 
 // The checks before a place is answered: the point's numbers, then the footprint.
-#[tactic(auto, using(crate::proofs::Finds::place_refused))]
 pub fn check_place(x: i32, y: i32, l: &[i32]) -> Result<(), Refusal>
     ensures { Finds (place_checks (pt x y) l.now) result }
 {
-    let k = reach::point_fault(x, y);
-    if k < 2 {
-        return Err(Refusal::Reach(2 + 2 * k));
-    }
+    check_numbers(&[reaches(x), reaches(y)])?;
     check_footprint(l)
 }
