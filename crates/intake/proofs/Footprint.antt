@@ -1,5 +1,4 @@
 -- The corners of a footprint one after the other: what a list holds after each, and what the checks find. Assumes nothing.
-use Rattle.grid.specs.declared.Taken.TheVariants.{Grid}
 use Rattle.std.specs.Prelude.{Ok, Err}
 use mathlib.Core.Path.{◌≡◌, refl, sym, subst, ◌∙◌}
 use mathlib.Core.Logic.{inl, inr}
@@ -19,8 +18,9 @@ use Rattle.rules.proofs.Checks.{in_turn_pass}
 use Rattle.refusal.specs.Said.{said, Finds}
 use Rattle.refusal.specs.declared.Refusal.{Refusal}
 use Rattle.refusal.specs.declared.Refusal.TheVariants.{Corners as Corners', Short}
-use Rattle.intake.specs.declared.Corner.{Corner}
+use Rattle.grid.specs.declared.Taken.TheVariants.{Grid}
 use Rattle.grid.specs.Number.{Answer}
+use Rattle.intake.specs.declared.Corner.{Corner}
 use Rattle.intake.specs.Footprint.{corner_at, corners_checks, intake_checks, HoldsCorners, Later}
 
 -- a number that is taken as k is taken as what equals k

@@ -1,8 +1,8 @@
 // The intake of exported corners into a lent list; the crate `grid` answers one number.
 #![tactic(auto)]
 
-ghost use Rattle.std.specs.Prelude.{◌≤◌};
-ghost use Rattle.intake.specs.Footprint.{Put, Refuses, Paired, Gathered, Intake};
+ghost use Rattle.std.specs.Prelude.{◌≤◌, length};
+ghost use Rattle.intake.specs.Footprint.{Put, Numbered, Paired, Gathered, Intake};
 
 use grid::{Taken, take};
 use refusal::Refusal;
@@ -14,73 +14,39 @@ pub struct Corner {
     pub y: f32,
 }
 
-// The refusal of a number that is not taken: not a number, out of reach, or else off grid. A grid number is not asked about.
-fn refused(answer: Taken, corner: usize, axis: usize) -> Refusal
-    ensures { Refuses answer corner axis result }
+// A coordinate's grid number, or its refusal.
+fn number(x: f32, corner: usize, axis: usize) -> Result<i32, Refusal>
+    ensures { Numbered x corner axis result }
 {
-    match answer {
-        Taken::NotNumber => Refusal::NotNumber(corner, axis),
-        Taken::Beyond => Refusal::Beyond(corner, axis),
-        _ => Refusal::OffGrid(corner, axis),
+    match take(x) {
+        Taken::Grid(k) => Ok(k),
+        Taken::NotNumber => Err(Refusal::NotNumber(corner, axis)),
+        Taken::Beyond => Err(Refusal::Beyond(corner, axis)),
+        Taken::OffGrid(_) => Err(Refusal::OffGrid(corner, axis)),
     }
 }
 
-// A corner's grid numbers, or the refusal of the first number that has none.
-#[derive(Clone, Copy)]
-enum Numbers {
-    Both(i32, i32),
-    Refused(Refusal),
-}
-
-// x is looked at before y.
-fn pair(corner: Corner, i: usize) -> Numbers
+// A corner's grid numbers: x is looked at before y.
+fn pair(corner: Corner, i: usize) -> Result<(i32, i32), Refusal>
     ensures { Paired corner i result }
 {
-    let first = take(corner.x);
-    let Taken::Grid(x) = first else {
-        return Numbers::Refused(refused(first, i, 0));
-    };
-    let second = take(corner.y);
-    let Taken::Grid(y) = second else {
-        return Numbers::Refused(refused(second, i, 1));
-    };
-    Numbers::Both(x, y)
-}
-
-// What a look at every corner finds, and the grid numbers where all are good.
-#[derive(Clone, Copy)]
-struct Gathering {
-    checked: Result<(), Refusal>,
-    numbers: [i32; 128],
+    let x = number(corner.x, i, 0)?;
+    let y = number(corner.y, i, 1)?;
+    Ok((x, y))
 }
 
 // The corners in their order, into numbers of our own.
-fn gather(corners: [Corner; 64], count: usize) -> Gathering
-    requires { count ≤ 64 }
-    ensures { Gathered corners count result.checked result.numbers }
+fn gather(corners: &[Corner]) -> Result<[i32; 128], Refusal>
+    requires { length corners.now ≤ 64 }
+    ensures { Gathered corners.now result }
 {
-    let mut numbers = [0i32; 128];
-    let mut i = 0usize;
-    while i < count {
-        let corner = corners[i];
-        match pair(corner, i) {
-            Numbers::Both(x, y) => {
-                numbers[2 * i] = x;
-                numbers[2 * i + 1] = y;
-            }
-            Numbers::Refused(r) => {
-                return Gathering {
-                    checked: Err(r),
-                    numbers,
-                };
-            }
-        }
-        i += 1;
+    let mut numbers = [0; 128];
+    for (i, corner) in corners.iter().enumerate() {
+        let (x, y) = pair(*corner, i)?;
+        numbers[2 * i] = x;
+        numbers[2 * i + 1] = y;
     }
-    Gathering {
-        checked: Ok(()),
-        numbers,
-    }
+    Ok(numbers)
 }
 
 // Numbers into a lent list, from its begin on.
@@ -90,32 +56,21 @@ pub fn put(numbers: &[i32], list: &mut [i32]) -> Result<(), Refusal>
     if list.len() < numbers.len() {
         return Err(Refusal::Short);
     }
-    let mut j = 0;
-    while j < numbers.len() {
-        list[j] = numbers[j];
-        j += 1;
-    }
+    list[..numbers.len()].copy_from_slice(numbers);
     Ok(())
 }
 
-// A footprint: `count` corners into a lent list, x then y. The list changes only where every corner is taken.
-pub fn intake(corners: [Corner; 64], count: usize, list: &mut [i32]) -> Result<(), Refusal>
-    ensures { Intake corners count list.old result list.new }
+// A footprint: three to 64 corners into a lent list, x then y. The list changes only where every corner is taken.
+pub fn intake(corners: &[Corner], list: &mut [i32]) -> Result<(), Refusal>
+    ensures { Intake corners.now list.old result list.new }
 {
-    if count < 3 {
-        return Err(Refusal::Corners);
-    }
-    if count > 64 {
+    let count = corners.len();
+    if count < 3 || 64 < count {
         return Err(Refusal::Corners);
     }
     if list.len() < 2 * count {
         return Err(Refusal::Short);
     }
-    let all = gather(corners, count);
-    let checked = all.checked;
-    let Ok(()) = checked else {
-        return checked;
-    };
-    let numbers = all.numbers;
+    let numbers = gather(corners)?;
     put(&numbers[..2 * count], list)
 }

@@ -1,11 +1,7 @@
--- Before corner i the contract holds of the first i corners, all of them taken. Assumes nothing.
-use Rattle.std.specs.Prelude.{Ok}
-use Rattle.std.proofs.Common.{◌≤◌, ◌-◌}
-use Rattle.intake.specs.Footprint.{Gathered}
+-- Before corner i those before it are taken, and stand in the numbers. Assumes nothing.
+use Rattle.std.proofs.Common.{◌≡◌, length}
+use Rattle.intake.specs.Footprint.{HoldsCorners}
 use Rattle.intake.proofs.gather.Given as goal
 
 abbrev pub invariant-loop-i : goal.invariant-loop-i
-invariant-loop-i l = Gathered l.corners l.i (Ok tt) l.numbers × (l.i ≤ l.count)
-
-abbrev pub decreases-loop-i : goal.decreases-loop-i
-decreases-loop-i l = l.count - l.i
+invariant-loop-i l = HoldsCorners l.corners l.i l.numbers × (length l.numbers ≡ 128)
