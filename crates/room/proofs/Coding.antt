@@ -27,8 +27,8 @@ use Rattle.seal.proofs.Blocks.{nth_length}
 use Rattle.piece_block.proofs.PieceLaws.{block_passes}
 use Rattle.piece_block.proofs.VerdictLaws.{block_refused}
 use Rattle.seal.specs.Seal.{block_at}
-use Rattle.room.specs.Image.{count, head_checks, Has, FirstRefused, pieces_check, room_checks}
-use Rattle.room.specs.declared.Counted.TheVariants.{Refused}
+use Rattle.room.specs.Image.{count, head_checks, Has, FirstRefused, pieces_check, room_checks, room_said, Unblocked}
+use Rattle.room.specs.declared.RoomRefusal.{RoomRefusal}
 use Rattle.room.specs.Verdicts.{verdicts_checks, CodeOf, Filled, VerdictsSay}
 use Rattle.room.specs.Codes.{CodeFound, CodesTo, AllCoded}
 use Rattle.room.proofs.Images.{few_pieces, has_long}
@@ -86,9 +86,9 @@ module _ (r : Run) (image : List ℕ) where
   coded_few codes n a = let e = a.pieces in let h = few_pieces image a.passes in omega arith
 
 -- a fault of the head is one of the room
-pub head_fault : (image : List ℕ) (x : Refusal) (b : ℕ) → Fault (head_checks image) (said_in x b) → Fault (room_checks image) (said_in x b)
+pub head_fault : (image : List ℕ) (x : RoomRefusal) → Fault (head_checks image) (room_said x) → Fault (room_checks image) (room_said x)
 unfolding room_checks
-head_fault image x b f = fault_left (head_checks image) (pieces_check piece_block_checks image ∷ []) (said_in x b) f
+head_fault image x f = fault_left (head_checks image) (pieces_check piece_block_checks image ∷ []) (room_said x) f
 
 -- ---- the verdicts
 module _ (r : Run) (image : List ℕ) where
@@ -96,21 +96,21 @@ module _ (r : Run) (image : List ℕ) where
   abbrev last : List ℕ → List Check
   last list = demand (count image ≤ length list) (refuse 10 0 0) ∷ []
 
-  pub run_refused : (list : List ℕ) (x : Refusal) → Fault (run_checks r) (said x) → VerdictsSay r image list list (Refused x 0)
+  pub run_refused : (list : List ℕ) (x : Refusal) → Fault (run_checks r) (said x) → (y : RoomRefusal) → Unblocked x y → VerdictsSay r image list list (Err y)
   unfolding verdicts_checks
-  run_refused list x f = (fault_left (run_checks r) (room_checks image ++ last list) (said_in x 0) f, refl)
+  run_refused list x f y e = rw e (fault_left (run_checks r) (room_checks image ++ last list) (said x) f, refl)
 
   module _ (good : Passes (run_checks r)) where
-    pub room_refused : (list : List ℕ) (x : Refusal) (b : ℕ) → Fault (room_checks image) (said_in x b) → VerdictsSay r image list list (Refused x b)
+    pub room_refused : (list : List ℕ) (x : RoomRefusal) → Fault (room_checks image) (room_said x) → VerdictsSay r image list list (Err x)
     unfolding verdicts_checks
-    room_refused list x b f =
-        (fault_right (run_checks r) (room_checks image ++ last list) (said_in x b) good (fault_left (room_checks image) (last list) (said_in x b) f), refl)
+    room_refused list x f =
+        (fault_right (run_checks r) (room_checks image ++ last list) (room_said x) good (fault_left (room_checks image) (last list) (room_said x) f), refl)
 
     module _ (codes : List ℕ) (n : ℕ) (all : AllCoded r image codes n) where
-      pub list_short : (list : List ℕ) → length list < n → VerdictsSay r image list list (Refused Short 0)
+      pub list_short : (list : List ℕ) → length list < n → (x : RoomRefusal) → Unblocked Short x → VerdictsSay r image list list (Err x)
       unfolding verdicts_checks
-      list_short list h =
-          let e = all.pieces in (
+      list_short list h x u =
+          let e = all.pieces in rw u (
             fault_right (run_checks r) (room_checks image ++ last list) (refuse 10 0 0) good
                 (fault_right (room_checks image) (last list) (refuse 10 0 0) all.passes (inl (λ k. omega arith, refl))),
             refl,

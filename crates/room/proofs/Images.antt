@@ -11,14 +11,14 @@ use Rattle.rules.specs.Reach.{Pieces}
 use Rattle.rules.proofs.Checks.{passes_append, passes_left, passes_right, fault_left, fault_right}
 use Rattle.refusal.specs.declared.Refusal.{Refusal}
 use Rattle.refusal.specs.declared.Refusal.TheVariants.{Length}
-use Rattle.refusal.specs.Said.{said_in}
+use Rattle.refusal.specs.Said.{said}
 use Rattle.seal.specs.Seal.{byte, block_at}
 use Rattle.block.specs.Reading.{header_checks, HeaderSays}
 use Rattle.piece_block.specs.Reading.{piece_block_checks}
 use Rattle.seal.proofs.Blocks.{nth_byte, nth_part}
 use Rattle.block.proofs.Headers.{header_passes, header_one, header_is, header_count}
-use Rattle.room.specs.declared.Counted.TheVariants.{Count, Refused}
-use Rattle.room.specs.Image.{count, Whole, head_checks, pieces_check, room_checks, HeadSays, Has}
+use Rattle.room.specs.declared.RoomRefusal.{RoomRefusal}
+use Rattle.room.specs.Image.{count, Whole, head_checks, pieces_check, room_checks, HeadSays, Has, room_said, Unblocked}
 
 -- ---- the head
 module _ (image : List ℕ) where
@@ -32,13 +32,13 @@ module _ (image : List ℕ) where
   pub first_five : byte b 5 ≡ count image
   first_five = nth_byte image 0 5 (omega arith)
 
-  pub not_whole : (Whole image → ⊥) → HeadSays image (Refused Length 0)
+  pub not_whole : (Whole image → ⊥) → (r : RoomRefusal) → Unblocked Length r → HeadSays image (Err r)
   unfolding head_checks
-  not_whole f = inl (f, refl)
+  not_whole f r e = inl (f, ap room_said e)
 
-  pub no_header : Whole image → (x : Refusal) → HeaderSays b (Err x) → HeadSays image (Refused x 0)
+  pub no_header : Whole image → (x : Refusal) → HeaderSays b (Err x) → (r : RoomRefusal) → Unblocked x r → HeadSays image (Err r)
   unfolding head_checks
-  no_header w x f = inr (w, fault_left (header_checks b) last (said_in x 0) f)
+  no_header w x f r e = rw e (inr (w, fault_left (header_checks b) last (said x) f))
 
   module _ (w : Whole image) (n : ℕ) (h : HeaderSays b (Ok n)) where
     header : Passes (header_checks b)
@@ -47,13 +47,13 @@ module _ (image : List ℕ) where
     counts : n ≡ count image
     counts = header_one n (byte b 5) (sym h.1 ∙ header_is b header) ∙ first_five
 
-    pub head_good : length image ≡ 512 * (n + 1) → HeadSays image (Count n)
+    pub head_good : length image ≡ 512 * (n + 1) → HeadSays image (Ok n)
     unfolding head_checks
     head_good e = let c = counts in record { passes = (w, passes_append (header_checks b) last header (omega arith, tt)); pieces = c }
 
-    pub head_bad : (length image ≡ 512 * (n + 1) → ⊥) → HeadSays image (Refused Length 0)
+    pub head_bad : (length image ≡ 512 * (n + 1) → ⊥) → (r : RoomRefusal) → Unblocked Length r → HeadSays image (Err r)
     unfolding head_checks
-    head_bad f = let c = counts in inr (w, fault_right (header_checks b) last (refuse 1 0 0) header (inl (λ e. f (omega arith), refl)))
+    head_bad f r g = let c = counts in rw g (inr (w, fault_right (header_checks b) last (refuse 1 0 0) header (inl (λ e. f (omega arith), refl))))
 
   module _ (p : Passes (head_checks image)) where
     pub head_header : Passes (header_checks b)

@@ -3,9 +3,10 @@ use mathlib.Core.Path.{◌≡◌, refl, sym, ap, subst, ◌∙◌}
 use mathlib.Core.List.{List, [], ◌∷◌, ◌++◌}
 use Prim.Native.Nat.{ℕ, zero, suc, ◌+◌, ◌*◌, ◌<◌}
 use native.Mathlib.Omega.{arith}
+use lib.IntN.{pos}
 use lib.ListN.{length, get_or, take, drop, length-append, length-drop, take-append-drop}
 use lib.Seq.{take_at, drop_at, drop-drop}
-use Rattle.rules.specs.Reach.{Piece}
+use Rattle.rules.specs.Reach.{Piece, piece}
 use Rattle.rules.specs.Refusal.{Passes}
 use Rattle.rules.specs.Good.{piece_checks}
 use Rattle.rules.proofs.Checks.{passes_append, passes_left, passes_right}
@@ -13,7 +14,7 @@ use Rattle.seal.specs.Seal.{byte, block_at, block_checks}
 use Rattle.block.specs.Layout.{header_block}
 use Rattle.piece_block.specs.Layout.{piece_block}
 use Rattle.block.specs.Reading.{piece_bytes, header_checks, inside}
-use Rattle.piece_block.specs.Reading.{piece_block_checks, nothing, PieceIn}
+use Rattle.piece_block.specs.Reading.{piece_block_checks, PieceIn}
 use Rattle.block.proofs.Headers.{header_length, header_passes, header_one, header_is}
 use Rattle.piece_block.proofs.PieceLaws.{piece_passes, block_long}
 use Rattle.room.specs.Image.{count, head_checks, pieces_check, room_checks, AllGood, blocks_of, image_of, Furnishes}
@@ -42,15 +43,15 @@ module _ (made : Piece → List ℕ) (long : (k : Piece) → Passes (piece_check
   blocks_long [] g = refl
   blocks_long (k ∷ ks) g = omega (arith, length-append (made k) (blocks_of made ks), long k g.0, blocks_long ks g.1)
 
-  blocks_at : (ks : List Piece) → AllGood ks → (i : ℕ) → i < length ks → block_at (blocks_of made ks) i ≡ made (get_or ks i nothing)
-  blocks_at [] g i h = absurd (omega arith)
-  blocks_at (k ∷ ks) g zero h = first_block (made k) (blocks_of made ks) (long k g.0)
-  blocks_at (k ∷ ks) g (suc i) h = after_block (made k) (blocks_of made ks) (long k g.0) i ∙ blocks_at ks g.1 i (omega arith)
+  blocks_at : (ks : List Piece) (z : Piece) → AllGood ks → (i : ℕ) → i < length ks → block_at (blocks_of made ks) i ≡ made (get_or ks i z)
+  blocks_at [] z g i h = absurd (omega arith)
+  blocks_at (k ∷ ks) z g zero h = first_block (made k) (blocks_of made ks) (long k g.0)
+  blocks_at (k ∷ ks) z g (suc i) h = after_block (made k) (blocks_of made ks) (long k g.0) i ∙ blocks_at ks z g.1 i (omega arith)
 
-pub good_at : (ks : List Piece) → AllGood ks → (i : ℕ) → i < length ks → Passes (piece_checks (get_or ks i nothing))
-good_at [] g i h = absurd (omega arith)
-good_at (k ∷ ks) g zero h = g.0
-good_at (k ∷ ks) g (suc i) h = good_at ks g.1 i (omega arith)
+pub good_at : (ks : List Piece) (z : Piece) → AllGood ks → (i : ℕ) → i < length ks → Passes (piece_checks (get_or ks i z))
+good_at [] z g i h = absurd (omega arith)
+good_at (k ∷ ks) z g zero h = g.0
+good_at (k ∷ ks) z g (suc i) h = good_at ks z g.1 i (omega arith)
 
 piece_long : (k : Piece) → Passes (piece_checks k) → length (piece_block k) ≡ 512
 unfolding piece_block_checks
@@ -81,8 +82,8 @@ module _ (ks : List Piece) (f : Furnishes ks) where
   image_count = sym (first_five (image_of ks)) ∙ ap (λ (l : List ℕ). byte l 5) head_is ∙ header_one _ _ (sym (header_is header header_good))
 
   -- block i + 1 is the block of piece i
-  pub image_at : (i : ℕ) → i < length ks → block_at (image_of ks) (suc i) ≡ piece_block (get_or ks i nothing)
-  image_at i h = after_block header blocks header_long i ∙ blocks_at piece_block piece_long ks f.good i h
+  pub image_at : (z : Piece) (i : ℕ) → i < length ks → block_at (image_of ks) (suc i) ≡ piece_block (get_or ks i z)
+  image_at z i h = after_block header blocks header_long i ∙ blocks_at piece_block piece_long ks z f.good i h
 
   pub image_head : Passes (head_checks (image_of ks))
   unfolding head_checks
@@ -93,8 +94,9 @@ module _ (ks : List Piece) (f : Furnishes ks) where
 
   image_pieces : (i : ℕ) → i < count (image_of ks) → Passes (piece_block_checks (block_at (image_of ks) (suc i)))
   image_pieces i h =
+      let z : Piece = piece (pos 0) (pos 0) (pos 0) (pos 0) (pos 0) [] in
       let l : i < length ks = omega (arith, image_count) in
-      subst (λ (b : List ℕ). Passes (piece_block_checks b)) (sym (image_at i l)) (piece_passes (get_or ks i nothing) (good_at ks f.good i l))
+      subst (λ (b : List ℕ). Passes (piece_block_checks b)) (sym (image_at z i l)) (piece_passes (get_or ks i z) (good_at ks z f.good i l))
 
   -- nothing is refused
   pub image_passes : Passes (room_checks (image_of ks))

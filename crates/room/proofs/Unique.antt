@@ -1,4 +1,5 @@
 -- At most one step, and at most one answer and list of verdicts, meet their contracts; and the end and a refusal repeat. Assumes nothing.
+use Rattle.std.specs.Prelude.{Some, None, Ok, Err}
 use mathlib.Core.Path.{◌≡◌, refl, sym, ap, subst, ◌∙◌}
 use mathlib.Core.List.{List}
 use Prim.Native.Nat.{ℕ, suc, ◌≤◌, ◌<◌}
@@ -6,7 +7,7 @@ use native.Mathlib.Omega.{arith}
 use lib.ListN.{get_or}
 use denote.Ref.{Bor}
 use Rattle.whole.proofs.Front.{stays_one}
-use Rattle.rules.specs.Reach.{Run, Piece}
+use Rattle.rules.specs.Reach.{Run}
 use Rattle.rules.specs.Refusal as rules
 use Rattle.rules.specs.Refusal.{Check, Passes, Fault, in_block}
 use Rattle.rules.specs.Good.{run_checks}
@@ -14,24 +15,20 @@ use Rattle.rules.specs.Verdict.{answer}
 use Rattle.rules.proofs.Checks.{only, Definite, AllDefinite, never_both, one_fault, definite_demand, definite_append}
 use Rattle.rules.proofs.Good.{definite_run}
 use Rattle.rules.proofs.Verdict.{answer_one}
-use Rattle.refusal.specs.declared.Refusal.{Refusal}
 use Rattle.refusal.proofs.Unique.{said_one}
 use Rattle.block.specs.Reading.{header_checks}
-use Rattle.piece_block.specs.Reading.{piece_block_checks, HoldsPiece}
+use Rattle.piece_block.specs.Reading.{piece_block_checks}
+use Rattle.piece_block.specs.declared.PieceRead.{PieceRead}
 use Rattle.piece_block.proofs.PieceLaws.{block_passes}
 use Rattle.block.proofs.OneFault.{definite_header}
 use Rattle.piece_block.proofs.OneFault.{definite_piece_block}
-use Rattle.piece_block.proofs.Unique.{holds_one, read_piece_one, verdict_on_one}
-use Rattle.room.specs.declared.Counted.{Counted}
-use Rattle.room.specs.declared.Counted.TheVariants.{Count, Refused as NoCount}
-use Rattle.room.specs.declared.Found.{Found}
-use Rattle.room.specs.declared.Found.TheVariants.{Piece as Good, End, Refused}
+use Rattle.piece_block.proofs.Unique.{read_piece_one, verdict_on_one}
+use Rattle.room.specs.declared.RoomRefusal.{RoomRefusal}
 use Rattle.room.specs.declared.Reader.{Reader}
 use Rattle.room.specs.declared.Step.{Step}
 use Rattle.seal.specs.Seal.{block_at}
-use Rattle.room.specs.Image.{count, head_checks, FirstRefused, pieces_check, room_checks}
-use Rattle.refusal.specs.Said.{said_in}
-use Rattle.room.specs.Step.{ReaderAt, piece_read, Gives, Ends, StepFault, head, block, StepFinds, StepSays}
+use Rattle.room.specs.Image.{count, head_checks, FirstRefused, pieces_check, room_checks, room_said, Counted}
+use Rattle.room.specs.Step.{ReaderAt, Gives, Ends, StepFault, head, block, Found, StepFinds, StepSays}
 use Rattle.room.specs.Verdicts.{verdicts_checks, CodeOf, Filled, VerdictsSay}
 
 -- ---- the checks are definite
@@ -67,17 +64,12 @@ unfolding verdicts_checks
 definite_verdicts r image list = definite_append (run_checks r) _ (definite_run r) (definite_append (room_checks image) _ (definite_room image) (definite_demand _ _, tt))
 
 -- ---- a refusal and its block are told by what they say
-block_one : (x y : Refusal) (a b : ℕ) → said_in x a ≡ said_in y b → a ≡ b
-block_one x y a b e = ap (λ (r : rules.Refusal). r.block) e
-
-refusal_one : (x y : Refusal) (a b : ℕ) → said_in x a ≡ said_in y b → x ≡ y
-refusal_one x y a b e = said_one x y (ap (in_block 0) e)
+refusal_one : (x y : RoomRefusal) → room_said x ≡ room_said y → x ≡ y
+refusal_one x y e = λ i. record { refusal = said_one x.refusal y.refusal (ap (in_block 0) e) i; block = ap (λ (r : rules.Refusal). r.block) e i }
 
 -- ---- steps
--- the same numbers, found and next
-same_step : (s t : Step) (k : Piece) → s.found ≡ t.found → s.next ≡ t.next → HoldsPiece (piece_read s) k → HoldsPiece (piece_read t) k → s ≡ t
-same_step s t k d n h g =
-    let q = holds_one (piece_read s) (piece_read t) k refl h g in λ i. record { found = d i; slab = (q i).slab; corners = (q i).corners; count = (q i).count; next = n i }
+same_step : (s t : Step) → s.found ≡ t.found → s.next ≡ t.next → s ≡ t
+same_step s t d n = λ i. record { found = d i; next = n i }
 
 module _ (image : List ℕ) (place : ℕ) where
   -- the block of the place
@@ -95,47 +87,41 @@ module _ (image : List ℕ) (place : ℕ) where
   fault_one r s (block p l x f e) (block q m y g d) = e ∙ ap (in_block (suc place)) (one_fault (piece_block_checks here) (definite_piece_block here) x y f g) ∙ sym d
 
   -- no fault where a piece is given
-  gives_faultless : (s : Step) → Gives image place s → (r : rules.Refusal) → StepFault image place r → ⊥
-  gives_faultless s g r (head f) = never_both (head_checks image) (definite_head image) r g.head f
-  gives_faultless s g r (block q l x f e) = never_both (piece_block_checks here) (definite_piece_block here) x (block_passes here g.good.piece g.good.same g.good.good) f
+  gives_faultless : (p : PieceRead) (s : Step) → Gives image place p s → (r : rules.Refusal) → StepFault image place r → ⊥
+  gives_faultless p s g r (head f) = never_both (head_checks image) (definite_head image) r g.head f
+  gives_faultless p s g r (block q l x f e) = never_both (piece_block_checks here) (definite_piece_block here) x (block_passes here g.good.piece g.good.same g.good.good) f
 
   -- nor at the end
   ends_faultless : (s : Step) → Ends image place s → (r : rules.Refusal) → StepFault image place r → ⊥
   ends_faultless s g r (head f) = never_both (head_checks image) (definite_head image) r g.head f
   ends_faultless s g r (block q l x f e) = past (count image) l g.past
 
-  finds_one : (s t : Step) (f g : Found) → s.found ≡ f → t.found ≡ g → StepFinds image place s f → StepFinds image place t g → s ≡ t
-  finds_one s t Good Good d e f g =
-      let q = read_piece_one here (piece_read s) (piece_read t) f.good g.good in
-      λ i. record { found = (d ∙ sym e) i; slab = (q i).slab; corners = (q i).corners; count = (q i).count; next = (f.next ∙ sym g.next) i }
-  finds_one s t Good End d e f g = absurd (past (count image) f.below g.past)
-  finds_one s t Good (Refused y b) d e f g = absurd (gives_faultless s f (said_in y b) g.fault)
-  finds_one s t End Good d e f g = absurd (past (count image) g.below f.past)
-  finds_one s t End End d e f g = same_step s t _ (d ∙ sym e) (f.next ∙ sym g.next) f.empty g.empty
-  finds_one s t End (Refused y b) d e f g = absurd (ends_faultless s f (said_in y b) g.fault)
-  finds_one s t (Refused x a) Good d e f g = absurd (gives_faultless t g (said_in x a) f.fault)
-  finds_one s t (Refused x a) End d e f g = absurd (ends_faultless t g (said_in x a) f.fault)
-  finds_one s t (Refused x a) (Refused y b) d e f g =
-      let q = fault_one (said_in x a) (said_in y b) f.fault g.fault in
-      same_step s t _ (d ∙ refused (refusal_one x y a b q) (block_one x y a b q) ∙ sym e) (f.next ∙ sym g.next) f.empty g.empty
-    where
-      refused : {x y : Refusal} {a b : ℕ} → x ≡ y → a ≡ b → Refused x a ≡ Refused y b
-      refused p q = cc
+  -- the same is found, and so the next place is the same
+  found_one : (s t : Step) (f g : Found) → StepFinds image place s f → StepFinds image place t g → (f ≡ g) × (s.next ≡ t.next)
+  found_one s t (Ok (Some p)) (Ok (Some q)) f g = let e = read_piece_one here (Ok p) (Ok q) f.good g.good in (cc, f.next ∙ sym g.next)
+  found_one s t (Ok (Some p)) (Ok None) f g = absurd (past (count image) f.below g.past)
+  found_one s t (Ok (Some p)) (Err y) f g = absurd (gives_faultless p s f (room_said y) g.fault)
+  found_one s t (Ok None) (Ok (Some q)) f g = absurd (past (count image) g.below f.past)
+  found_one s t (Ok None) (Ok None) f g = (refl, f.next ∙ sym g.next)
+  found_one s t (Ok None) (Err y) f g = absurd (ends_faultless s f (room_said y) g.fault)
+  found_one s t (Err x) (Ok (Some q)) f g = absurd (gives_faultless q t g (room_said x) f.fault)
+  found_one s t (Err x) (Ok None) f g = absurd (ends_faultless t g (room_said x) f.fault)
+  found_one s t (Err x) (Err y) f g = (ap Err (refusal_one x y (fault_one (room_said x) (room_said y) f.fault g.fault)), f.next ∙ sym g.next)
 
   -- at most one step
   pub step_one : (s t : Step) → StepSays image place s → StepSays image place t → s ≡ t
-  step_one s t f g = finds_one s t s.found t.found refl refl f g
+  step_one s t f g = let q = found_one s t s.found t.found f g in same_step s t q.0 q.1
 
   -- a step that goes on at its own place repeats
   again : (s t : Step) → s.next ≡ place → StepSays image place s → StepSays image s.next t → t ≡ s
   again s t e f g = step_one t s (subst (λ (n : ℕ). StepSays image n t) e g) f
 
   -- so the end repeats, and so does a refusal
-  pub end_again : (s t : Step) → s.found ≡ End → StepSays image place s → StepSays image s.next t → t ≡ s
+  pub end_again : (s t : Step) → s.found ≡ Ok None → StepSays image place s → StepSays image s.next t → t ≡ s
   end_again s t e f = again s t (subst (StepFinds image place s) e f).next f
 
-  pub refusal_again : (s t : Step) (x : Refusal) (b : ℕ) → s.found ≡ Refused x b → StepSays image place s → StepSays image s.next t → t ≡ s
-  refusal_again s t x b e f = again s t (subst (StepFinds image place s) e f).next f
+  pub refusal_again : (s t : Step) (r : RoomRefusal) → s.found ≡ Err r → StepSays image place s → StepSays image s.next t → t ≡ s
+  refusal_again s t r e f = again s t (subst (StepFinds image place s) e f).next f
 
 -- a reader is its image and its place
 pub reader_one : (image : Bor (List ℕ)) (place : ℕ) (r s : Reader) → ReaderAt image place r → ReaderAt image place s → r ≡ s
@@ -151,12 +137,8 @@ module _ (r : Run) (image : List ℕ) where
 
   -- at most one answer, and one later content of the list
   pub verdicts_one : (before a b : List ℕ) (x y : Counted) → VerdictsSay r image before a x → VerdictsSay r image before b y → (x ≡ y) × (a ≡ b)
-  verdicts_one before a b (Count m) (Count n) f g = (ap Count (f.pieces ∙ sym g.pieces), list_one before a b m n f g)
-  verdicts_one before a b (Count m) (NoCount y n) f g = absurd (never_both (verdicts_checks r image before) (definite_verdicts r image before) (said_in y n) f.passes g.0)
-  verdicts_one before a b (NoCount x m) (Count n) f g = absurd (never_both (verdicts_checks r image before) (definite_verdicts r image before) (said_in x m) g.passes f.0)
-  verdicts_one before a b (NoCount x m) (NoCount y n) f g =
-      let q = one_fault (verdicts_checks r image before) (definite_verdicts r image before) (said_in x m) (said_in y n) f.0 g.0 in
-      (refused (refusal_one x y m n q) (block_one x y m n q), f.1 ∙ sym g.1)
-    where
-      refused : {x y : Refusal} {a b : ℕ} → x ≡ y → a ≡ b → NoCount x a ≡ NoCount y b
-      refused p q = cc
+  verdicts_one before a b (Ok m) (Ok n) f g = (ap Ok (f.pieces ∙ sym g.pieces), list_one before a b m n f g)
+  verdicts_one before a b (Ok m) (Err y) f g = absurd (never_both (verdicts_checks r image before) (definite_verdicts r image before) (room_said y) f.passes g.0)
+  verdicts_one before a b (Err x) (Ok n) f g = absurd (never_both (verdicts_checks r image before) (definite_verdicts r image before) (room_said x) g.passes f.0)
+  verdicts_one before a b (Err x) (Err y) f g =
+      (ap Err (refusal_one x y (one_fault (verdicts_checks r image before) (definite_verdicts r image before) (room_said x) (room_said y) f.0 g.0)), f.1 ∙ sym g.1)

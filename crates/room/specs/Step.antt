@@ -52,6 +52,21 @@ StepFinds image place s (Err r) = Stops image place (room_said r) s
 abbrev pub StepSays : List ℕ → ℕ → Step → Type 0
 StepSays image place s = StepFinds image place s s.found
 
+-- the piece of a block, or the fault of that block
+abbrev pub BlockSays : List ℕ → ℕ → Result PieceRead RoomRefusal → Type 0
+BlockSays image place (Ok p) = PieceGood (block_at image (suc place)) p
+BlockSays image place (Err r) = StepFault image place (room_said r)
+
+-- a step goes on behind a piece alone
+abbrev pub next_of : ℕ → Found → ℕ
+next_of place (Ok (Some p)) = suc place
+next_of place (Ok None) = place
+next_of place (Err r) = place
+
+-- what stands at a place: what its step finds
+abbrev pub FoundAt : List ℕ → ℕ → Found → Type 0
+FoundAt image place f = StepSays image place (record { found = f; next = next_of place f })
+
 -- ---- reading on
 -- steps from a place on, each at the place that the one before names as the next
 abbrev pub StepsFrom : List ℕ → ℕ → List Step → Type 0

@@ -1,12 +1,10 @@
 // A reader of a room: thin functions over the image and the place that it holds.
-ghost use Rattle.std.specs.Prelude.{◌≡◌};
 ghost use Rattle.room.specs.Image.{Has};
-ghost use Rattle.room.specs.Made.{NoPiece, step_of};
-ghost use Rattle.room.specs.Step.{ReaderAt, StepSays};
+ghost use Rattle.room.specs.Step.{ReaderAt, BlockSays, FoundAt, StepSays};
 
-use crate::image::{head, read_block};
+use crate::image::{block_of, head};
 use crate::{Reader, RoomRefusal, Step};
-use piece_block::PieceRead;
+use piece_block::{PieceRead, read_piece};
 
 // The piece of a block at a place below the count.
 fn piece_of(image: &[u8], place: usize) -> Result<PieceRead, RoomRefusal>
@@ -14,7 +12,7 @@ fn piece_of(image: &[u8], place: usize) -> Result<PieceRead, RoomRefusal>
     ensures { BlockSays image.now place result }
 {
     let block = place + 1;
-    read_block(image, place).map_err(|refusal| RoomRefusal { refusal, block })
+    read_piece(block_of(image, place)).map_err(|refusal| RoomRefusal { refusal, block })
 }
 
 // What stands at a place of an image.
@@ -34,7 +32,11 @@ fn step_at(image: &[u8], place: usize) -> Step
     ensures { StepSays image.now place result }
 {
     let found = found_at(image, place);
-    let next = if let Ok(Some(_)) = found { place + 1 } else { place };
+    let next = if let Ok(Some(_)) = found {
+        place + 1
+    } else {
+        place
+    };
     Step { found, next }
 }
 

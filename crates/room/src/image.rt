@@ -1,12 +1,10 @@
 // A room image: its head, and one of its piece blocks.
-ghost use Rattle.std.specs.Prelude.{suc};
-ghost use Rattle.piece_block.specs.Reading.{PieceSays};
+ghost use Rattle.std.specs.Prelude.{◌≡◌, suc};
 ghost use Rattle.seal.specs.Seal.{block_at};
 ghost use Rattle.room.specs.Image.{HeadSays, Has};
 
 use crate::RoomRefusal;
 use block::read_header;
-use piece_block::{PieceRead, read_piece};
 use refusal::Refusal;
 use seal::SIZE;
 
@@ -32,12 +30,12 @@ pub(crate) fn head(image: &[u8]) -> Result<usize, RoomRefusal>
     }
 }
 
-// Piece i of a room.
-pub(crate) fn read_block(image: &[u8], i: usize) -> Result<PieceRead, Refusal>
+// The block of piece i.
+pub(crate) fn block_of(image: &[u8], i: usize) -> &[u8]
     requires { Has image.now i }
-    ensures { PieceSays (block_at image.now (suc i)) result }
+    ensures { result.now ≡ block_at image.now (suc i) }
 {
     let from = SIZE * (i + 1);
     let to = from + SIZE;
-    read_piece(&image[from..to])
+    &image[from..to]
 }

@@ -10,13 +10,12 @@ ghost use Rattle.room.specs.Image.{HeadGood, Has};
 ghost use Rattle.room.specs.Verdicts.{VerdictsSay};
 
 use crate::RoomRefusal;
-use crate::image::head;
+use crate::image::{block_of, head};
 use block::MOST;
 use good::{Run, check_run};
 use piece::coded;
 use piece_block::verdict_in;
 use refusal::Refusal;
-use seal::SIZE;
 
 // The verdicts on the pieces of a room, coded, and how many there are.
 #[derive(Clone, Copy)]
@@ -30,9 +29,7 @@ fn code_of(run: Run, image: &[u8], i: usize) -> Result<u32, Refusal>
     requires { Passes (run_checks (run_of run)) × Has image.now i }
     ensures { CodeFound (run_of run) image.now i result }
 {
-    let from = SIZE * (i + 1);
-    let to = from + SIZE;
-    coded(verdict_in(run, &image[from..to]))
+    coded(verdict_in(run, block_of(image, i)))
 }
 
 // Piece by piece.

@@ -11,18 +11,17 @@ use Rattle.room.proofs.pass.codes_of.Goals as goal
 pub bounds-codes-i : goal.bounds-codes-i
 bounds-codes-i c = let h = head_few c.args.image.now c.requires.1.passes in omega (arith, c.requires.1.pieces)
 
-pub returns-in-Refused : goal.returns-in-Refused
-returns-in-Refused c =
+pub returns-in-Err : goal.returns-in-Err
+returns-in-Err c =
     let h = c.requires.1 in
-    codes_stop (run_of c.args.run) c.args.image.now c.loop-i.codes c.loop-i.i c.in-Refused.x
-    (record { head = h.passes; below = omega (arith, h.pieces) }) c.loop-i.invariant.0 c.in-Refused.ensures
+    codes_stop (run_of c.args.run) c.args.image.now c.loop-i.codes c.loop-i.i c.in-Err.refusal
+    (record { head = h.passes; below = omega (arith, h.pieces) }) c.loop-i.invariant.0 c.in-Err.ensures
 
 pub loop-i-preserved : goal.loop-i-preserved
 loop-i-preserved c =
-    let h = head_few c.args.image.now c.requires.1.passes in let inv = c.loop-i.invariant in let codes = c.loop-i.codes in let i = c.loop-i.i in let x = c.in-Code.c in (
-      codes_more (run_of c.args.run) c.args.image.now codes i x (omega (arith, inv.1, c.requires.1.pieces)) inv.0 c.in-Code.ensures,
+    let h = head_few c.args.image.now c.requires.1.passes in let inv = c.loop-i.invariant in let codes = c.loop-i.codes in let i = c.loop-i.i in let x = c.in-Ok.c in (
+      codes_more (run_of c.args.run) c.args.image.now codes i x (omega (arith, inv.1, c.requires.1.pieces)) inv.0 c.in-Ok.ensures,
       length-set codes i x ∙ inv.1,
-      omega arith,
     )
 
 pub returns : goal.returns
