@@ -1,5 +1,5 @@
 -- From a slot looked at, or written, to what asking says. Assumes nothing.
-use Rattle.std.specs.Prelude.{Some, None}
+use Rattle.std.specs.Prelude.{Option, Some, None, Result, Ok, Err}
 use mathlib.Core.Path.{◌≡◌, refl, sym, ap, subst, ◌∙◌}
 use mathlib.Core.Logic.{inr}
 use mathlib.Core.List.{List, ◌++◌}
@@ -14,8 +14,7 @@ use Rattle.refusal.specs.Said.{said}
 use Rattle.refusal.specs.declared.Refusal as told
 use Rattle.seal.specs.Seal.{byte, sum, block_of, block_at}
 use Rattle.book.specs.declared.Asked.{Asked}
-use Rattle.book.specs.declared.Asked.TheVariants.{Remembered, Worked, Refused}
---TYPE use Rattle.book.specs.declared.slot.Memory.{Memory}
+use Rattle.book.specs.declared.Asked.TheVariants.{Remembered, Worked}
 use Rattle.book.specs.Entry.{Slots, slots, key_length, four, entry_of, home, entry, Hit, put}
 use Rattle.book.specs.Ask.{ask_checks, AskSays}
 use Rattle.book.specs.Steps.{first_bytes, Begun, SoundAfter, Recalls, Keeps, Works}
@@ -35,7 +34,7 @@ module _ (book front : List ℕ) (r : Run) (k : Piece) (end i : ℕ) (q : Asking
   in_book = rw q.at (slot_in book q.sized (sum (λ j. byte front (2 + j)) key_length))
 
   -- the run passes, so the rest is the piece's
-  pub piece_fault : (x : told.Refusal) → Fault (piece_checks k) (said x) → AskSays book book r k (Refused x)
+  pub piece_fault : (x : told.Refusal) → Fault (piece_checks k) (said x) → AskSays book book r k (Err x)
   unfolding ask_checks verdict_checks
   piece_fault x f = (inr (q.sized, fault_right (run_checks r) (piece_checks k) (said x) q.good f), refl)
 
@@ -65,14 +64,14 @@ module _ (book front : List ℕ) (r : Run) (k : Piece) (end i : ℕ) (q : Asking
         ∙ ap (λ n. put book n (block_of (first_bytes front end ++ four c))) at_home
         ∙ ap (λ (z : List ℕ). put book (home book r k) z) (entry_is c)
 
-  module _ (x : Memory) (f : Recalls (block_at book i) (first_bytes front end) r x) where
-    pub hits : (c : ℕ) → x ≡ Some c → Passes (piece_checks k) → AskSays book book r k (Remembered c)
+  module _ (x : Option ℕ) (f : Recalls (block_at book i) (first_bytes front end) r x) where
+    pub hits : (c : ℕ) → x ≡ Some c → Passes (piece_checks k) → AskSays book book r k (Ok (Remembered c))
     hits c g p = record { passes = all_pass p; hit = to_hit p c (subst (Recalls (block_at book i) (first_bytes front end) r) g f); same = refl }
 
-    pub works : (after : List ℕ) (a : Asked) → x ≡ None → Works book after i (first_bytes front end) r k a → AskSays book after r k a
+    pub works : (after : List ℕ) (a : Result Asked told.Refusal) → x ≡ None → Works book after i (first_bytes front end) r k a → AskSays book after r k a
     unfolding ask_checks
-    works after (Remembered c) g w = absurd w
-    works after (Worked c) g w =
+    works after (Ok (Remembered c)) g w = absurd w
+    works after (Ok (Worked c)) g w =
         let p = piece_passes r k w.passes in
         record {
           passes = all_pass p;
@@ -81,7 +80,7 @@ module _ (book front : List ℕ) (r : Run) (k : Piece) (end i : ℕ) (q : Asking
           verdict = w.verdict;
           stored = kept_is p after c w.kept;
         }
-    works after (Refused y) g w = (inr (q.sized, w.0), w.1)
+    works after (Err y) g w = (inr (q.sized, w.0), w.1)
 
 -- the run is looked at before the piece
 pub run_faulty : (r : Run) (k : Piece) (x : Refusal) → Fault (run_checks r) x → Fault (verdict_checks r k) x

@@ -1,4 +1,5 @@
 -- What is remembered is true: in a book that began empty and was written only by asking, every hit is true. Assumes nothing.
+use Rattle.std.specs.Prelude.{Result, Ok, Err}
 use mathlib.Core.Path.{◌≡◌, refl, sym, ap, subst, ◌∙◌}
 use mathlib.Core.List.{List, ◌++◌}
 use Prim.Native.Nat.{ℕ, suc, ◌+◌, ◌*◌, ◌/◌, ◌%◌, ◌≤◌}
@@ -14,7 +15,8 @@ use Rattle.seal.specs.Seal.{sum, byte, block_of, filled, block_at}
 use Rattle.seal.proofs.Blocks.{nth_byte}
 use Rattle.seal.proofs.Bytes.{repeated, block_length}
 use Rattle.book.specs.declared.Asked.{Asked}
-use Rattle.book.specs.declared.Asked.TheVariants.{Remembered, Worked, Refused}
+use Rattle.book.specs.declared.Asked.TheVariants.{Remembered, Worked}
+use Rattle.refusal.specs.declared.Refusal.{Refusal}
 use Rattle.book.specs.Entry.{Slots, kind, four, opening, entry_of, question, home, entry, Hit, put}
 use Rattle.book.specs.Ask.{ask_checks, Misses, AskSays, Kept, empty, asked}
 use Rattle.book.proofs.Look.{named_few}
@@ -118,19 +120,19 @@ unchanged book after r k c {Q} e f = subst (λ (b : List ℕ). Passes (ask_check
 -- every hit is true
 pub true_hit : (book : List ℕ) → Kept book → (r : Run) (k : Piece) (c : ℕ) → Passes (ask_checks book r k) → Hit book r k c → Verdict r k (answer c)
 true_hit z (empty n) r k c p h = absurd (no_hit n r k c h)
-true_hit z (asked book after s m (Remembered d) kept w) r k c p h = unchanged book after r k c w.same (λ q g. true_hit book kept r k c q g) p h
-true_hit z (asked book after s m (Refused x) kept w) r k c p h = unchanged book after r k c w.1 (λ q g. true_hit book kept r k c q g) p h
-true_hit z (asked book after s m (Worked d) kept w) r k c p h =
+true_hit z (asked book after s m (Ok (Remembered d)) kept w) r k c p h = unchanged book after r k c w.same (λ q g. true_hit book kept r k c q g) p h
+true_hit z (asked book after s m (Err x) kept w) r k c p h = unchanged book after r k c w.1 (λ q g. true_hit book kept r k c q g) p h
+true_hit z (asked book after s m (Ok (Worked d)) kept w) r k c p h =
     let q = checks_elsewhere book after r k (stored_length book after s m d w) p in
     by_slot (ℕ_discrete (home book r k) (home book s m)) (same_slot book after s m d w r k c q h) (λ g. true_hit book kept r k c q (other_slot book after s m d w r k c q h g))
 
 -- ---- so every answer is the verdict
-abbrev pub Told : Run → Piece → Asked → Type 0
-Told r k (Remembered c) = Verdict r k (answer c)
-Told r k (Worked c) = Verdict r k (answer c)
-Told r k (Refused x) = Unit {0}
+abbrev pub Told : Run → Piece → Result Asked Refusal → Type 0
+Told r k (Ok (Remembered c)) = Verdict r k (answer c)
+Told r k (Ok (Worked c)) = Verdict r k (answer c)
+Told r k (Err x) = Unit {0}
 
-pub true_answer : (book after : List ℕ) → Kept book → (r : Run) (k : Piece) (a : Asked) → AskSays book after r k a → Told r k a
-true_answer book after kept r k (Remembered c) w = true_hit book kept r k c w.passes w.hit
-true_answer book after kept r k (Worked c) w = w.verdict
-true_answer book after kept r k (Refused x) w = tt
+pub true_answer : (book after : List ℕ) → Kept book → (r : Run) (k : Piece) (a : Result Asked Refusal) → AskSays book after r k a → Told r k a
+true_answer book after kept r k (Ok (Remembered c)) w = true_hit book kept r k c w.passes w.hit
+true_answer book after kept r k (Ok (Worked c)) w = w.verdict
+true_answer book after kept r k (Err x) w = tt

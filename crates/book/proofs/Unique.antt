@@ -1,4 +1,5 @@
 -- Nothing else could be answered, and nothing else left in the book. Assumes nothing.
+use Rattle.std.specs.Prelude.{Result, Ok, Err}
 use mathlib.Core.Path.{◌≡◌, refl, sym, ap, subst, ◌∙◌}
 use mathlib.Core.List.{List}
 use Prim.Native.Nat.{ℕ}
@@ -12,7 +13,7 @@ use Rattle.refusal.specs.Said.{said}
 use Rattle.refusal.specs.declared.Refusal as told
 use Rattle.refusal.proofs.Unique.{refused_one}
 use Rattle.book.specs.declared.Asked.{Asked}
-use Rattle.book.specs.declared.Asked.TheVariants.{Remembered, Worked, Refused}
+use Rattle.book.specs.declared.Asked.TheVariants.{Remembered, Worked}
 use Rattle.seal.specs.Seal.{block_at}
 use Rattle.book.specs.Entry.{question, home, Hit}
 use Rattle.book.specs.Ask.{ask_checks, AskSays}
@@ -42,22 +43,22 @@ clash : (book : List ℕ) (r : Run) (k : Piece) (x : told.Refusal) {A : Type 0} 
 clash book r k x p f = absurd (never_both (ask_checks book r k) (definite_ask book r k) (said x) p f)
 
 -- the answer: a fault, a hit and neither exclude each other, and of each there is one
-pub one_answer : (book after later : List ℕ) (r : Run) (k : Piece) (a b : Asked) → AskSays book after r k a → AskSays book later r k b → a ≡ b
-one_answer book after later r k (Refused x) (Refused y) h g = ap Refused (refused_one (ask_checks book r k) (definite_ask book r k) x y h.0 g.0)
-one_answer book after later r k (Refused x) (Remembered d) h g = clash book r k x g.passes h.0
-one_answer book after later r k (Refused x) (Worked d) h g = clash book r k x g.passes h.0
-one_answer book after later r k (Remembered c) (Refused y) h g = clash book r k y h.passes g.0
-one_answer book after later r k (Remembered c) (Remembered d) h g = ap Remembered (hit_one book r k c d h.hit g.hit)
-one_answer book after later r k (Remembered c) (Worked d) h g = absurd (g.miss c h.hit)
-one_answer book after later r k (Worked c) (Refused y) h g = clash book r k y h.passes g.0
-one_answer book after later r k (Worked c) (Remembered d) h g = absurd (h.miss d g.hit)
-one_answer book after later r k (Worked c) (Worked d) h g = ap Worked (worked_one r k c d h.verdict g.verdict)
+pub one_answer : (book after later : List ℕ) (r : Run) (k : Piece) (a b : Result Asked told.Refusal) → AskSays book after r k a → AskSays book later r k b → a ≡ b
+one_answer book after later r k (Err x) (Err y) h g = ap Err (refused_one (ask_checks book r k) (definite_ask book r k) x y h.0 g.0)
+one_answer book after later r k (Err x) (Ok (Remembered d)) h g = clash book r k x g.passes h.0
+one_answer book after later r k (Err x) (Ok (Worked d)) h g = clash book r k x g.passes h.0
+one_answer book after later r k (Ok (Remembered c)) (Err y) h g = clash book r k y h.passes g.0
+one_answer book after later r k (Ok (Remembered c)) (Ok (Remembered d)) h g = ap (λ (n : ℕ). Ok (Remembered n)) (hit_one book r k c d h.hit g.hit)
+one_answer book after later r k (Ok (Remembered c)) (Ok (Worked d)) h g = absurd (g.miss c h.hit)
+one_answer book after later r k (Ok (Worked c)) (Err y) h g = clash book r k y h.passes g.0
+one_answer book after later r k (Ok (Worked c)) (Ok (Remembered d)) h g = absurd (h.miss d g.hit)
+one_answer book after later r k (Ok (Worked c)) (Ok (Worked d)) h g = ap (λ (n : ℕ). Ok (Worked n)) (worked_one r k c d h.verdict g.verdict)
 
 -- what an answer leaves
-left : (book after later : List ℕ) (r : Run) (k : Piece) (a : Asked) → AskSays book after r k a → AskSays book later r k a → after ≡ later
-left book after later r k (Remembered c) h g = h.same ∙ sym g.same
-left book after later r k (Worked c) h g = h.stored ∙ sym g.stored
-left book after later r k (Refused x) h g = h.1 ∙ sym g.1
+left : (book after later : List ℕ) (r : Run) (k : Piece) (a : Result Asked told.Refusal) → AskSays book after r k a → AskSays book later r k a → after ≡ later
+left book after later r k (Ok (Remembered c)) h g = h.same ∙ sym g.same
+left book after later r k (Ok (Worked c)) h g = h.stored ∙ sym g.stored
+left book after later r k (Err x) h g = h.1 ∙ sym g.1
 
-pub one_book : (book after later : List ℕ) (r : Run) (k : Piece) (a b : Asked) → AskSays book after r k a → AskSays book later r k b → after ≡ later
-one_book book after later r k a b h g = left book after later r k b (subst (λ (q : Asked). AskSays book after r k q) (one_answer book after later r k a b h g) h) g
+pub one_book : (book after later : List ℕ) (r : Run) (k : Piece) (a b : Result Asked told.Refusal) → AskSays book after r k a → AskSays book later r k b → after ≡ later
+one_book book after later r k a b h g = left book after later r k b (subst (λ (q : Result Asked told.Refusal). AskSays book after r k q) (one_answer book after later r k a b h g) h) g

@@ -45,7 +45,13 @@ fn work(
 }
 
 // A good run asks: what is remembered is answered only of a good piece.
-fn answer(book: &mut [u8], run: Run, slab: Slab, corners: &[i32], front: &mut [u8]) -> Result<Asked, Refusal>
+fn answer(
+    book: &mut [u8],
+    run: Run,
+    slab: Slab,
+    corners: &[i32],
+    front: &mut [u8],
+) -> Result<Asked, Refusal>
     requires { Slots book.old × Layable (run_of run) front.old }
     ensures { AskSays book.old book.new (run_of run) (piece_of slab corners.now) result }
 {

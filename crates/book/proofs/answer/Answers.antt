@@ -1,6 +1,7 @@
 -- `book::answer` meets its contract: what a look finds, and else what is worked out, by the laws of Asking. Assumes nothing.
 use Rattle.std.specs.Prelude.{Some, None}
 use Rattle.std.proofs.Common.{◌≡◌, refl, ◌∙◌, List, ℕ, ◌+◌, ◌%◌, arith}
+use Rattle.std.proofs.lemmas.Result.{err_from_is_err_and}
 use Rattle.rules.specs.Reach.{Run, Piece}
 use Rattle.rules.specs.Refusal.{Passes}
 use Rattle.rules.specs.Good.{run_checks}
@@ -24,20 +25,21 @@ look-requires c =
       (record { long = d.auto.front ∙ p.1.long; within = d.ensures.within }, run_known r p.1.good 6 (omega arith)),
     )
 
-pub returns-in-Nothing : goal.returns-in-Nothing
-returns-in-Nothing c =
+pub returns-in-None : goal.returns-in-None
+returns-in-None c =
     let a = c.args in let p = c.requires in let r = run_of a.run in let k = piece_of a.slab a.corners.now in let d = c.lay-end in let h = c.home_of-at in
     let q = asking a.book.now d.new.front r k d.result h.result p.0 p.1.good d.ensures h.ensures in
-    works a.book.now d.new.front r k d.result h.result q None c.in-Nothing.ensures c.work.new.book c.work.result refl c.work.ensures
+    works a.book.now d.new.front r k d.result h.result q None c.in-None.ensures c.work.new.book c.work.result refl c.work.ensures
 
-pub returns-in-Err : goal.returns-in-Err
-returns-in-Err c =
+pub returns-in_err-check_piece-in-Some : goal.returns-in_err-check_piece-in-Some
+returns-in_err-check_piece-in-Some c =
     let a = c.args in let p = c.requires in let r = run_of a.run in let k = piece_of a.slab a.corners.now in let d = c.lay-end in let h = c.home_of-at in
     let q = asking a.book.now d.new.front r k d.result h.result p.0 p.1.good d.ensures h.ensures in
-    piece_fault a.book.now d.new.front r k d.result h.result q c.in-Err.x c.in-Err.ensures
+    let p = err_from_is_err_and c.from_residual.result c.from_residual.ensures.1 in
+    rw (p.1, p.2) (piece_fault a.book.now d.new.front r k d.result h.result q _ c.in_err-check_piece-in-Some.ensures)
 
-pub returns-in-Ok : goal.returns-in-Ok
-returns-in-Ok c =
+pub returns-in_ok-check_piece-in-Some : goal.returns-in_ok-check_piece-in-Some
+returns-in_ok-check_piece-in-Some c =
     let a = c.args in let p = c.requires in let r = run_of a.run in let k = piece_of a.slab a.corners.now in let d = c.lay-end in let h = c.home_of-at in
     let q = asking a.book.now d.new.front r k d.result h.result p.0 p.1.good d.ensures h.ensures in
-    hits a.book.now d.new.front r k d.result h.result q (Some c.in-Ok.c) c.in-Ok.ensures c.in-Ok.c refl c.in-Ok.ensures
+    hits a.book.now d.new.front r k d.result h.result q (Some c.in-Some.code) c.in-Some.ensures c.in-Some.code refl c.in_ok-check_piece-in-Some.ensures

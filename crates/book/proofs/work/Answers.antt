@@ -7,5 +7,5 @@ use Rattle.book.proofs.work.Goals as goal
 pub returns : goal.returns
 returns c =
     let a = c.args in let r = run_of a.run in let k = piece_of a.slab a.corners.now in
-    let g = subst (TellsCode r k) (sym c.in-Code.ensures) (tells_code r k c.verdict.result c.verdict.ensures) in
+    let g = subst (TellsCode r k) (sym c.in_ok-code.ensures) (tells_code r k c.verdict.result c.verdict.ensures) in
     record { passes = g.passes; small = omega (arith, g.most); verdict = g.verdict; kept = c.keep.ensures }

@@ -1,5 +1,6 @@
 -- `book::front::lay` meets its contract: the run's bytes, and then the piece's, which are promised of a good one. Assumes nothing.
-use Rattle.std.proofs.Common.{◌≡◌, ◌∙◌, List, ℕ, arith, length, set, take, drop, length-set}
+use Rattle.std.proofs.Common.{◌≡◌, ap, ◌∙◌, List, ℕ, arith, length, set, take, drop, length-set}
+use Rattle.std.specs.Prelude.{Ok, is_ok}
 use Rattle.rules.specs.Reach.{Run}
 use Rattle.rules.specs.Refusal.{Passes}
 use Rattle.rules.specs.Good.{run_checks}
@@ -30,15 +31,22 @@ module _ (r : Run) (front bytes : List ℕ) (z : length front ≡ code_at) (good
   part_long = part_length begun 2 run_body_size (simp length-set (omega (arith, z)))
 
   module _ (w : Checked) (s : WriteRunBodySays r part bytes w) where
-    laid : bytes ≡ run_body r
+    done : (w ≡ Ok tt) × (bytes ≡ run_body r)
     unfolding run_body_asked
-    laid = (written (run_body_asked part r) (definite_run_body_asked part r) (run_body r) part bytes w s (part_long, good)).1
+    done = written (run_body_asked part r) (definite_run_body_asked part r) (run_body r) part bytes w s (part_long, good)
+
+    laid : bytes ≡ run_body r
+    laid = done.1
 
     abbrev part_2 : List ℕ
     part_2 = take piece_length (drop piece_at (mid 2 run_body_size begun bytes))
 
     part_2_long : length part_2 ≡ piece_length
     part_2_long = part_length (mid 2 run_body_size begun bytes) piece_at piece_length (omega (arith, headed_length r front bytes z laid))
+
+pub unwrap-requires : goal.unwrap-requires
+unwrap-requires c =
+    let q = c.requires in let w = c.write_run_body in ap is_ok (done (run_of c.args.run) c.args.front.now w.new.bytes q.long q.good w.result w.ensures).0
 
 pub returns-in-Err : goal.returns-in-Err
 returns-in-Err c =
