@@ -55,7 +55,7 @@ fn export(numbers: &[f32], list: &mut [i32]) -> Result<(), Refusal>
         return Err(Refusal::Corners);
     }
     let corners = corners_of(numbers, count);
-    intake::intake(&corners[..count], list)
+    intake::intake(corners, count, list)
 }
 
 #[unsafe(no_mangle)]

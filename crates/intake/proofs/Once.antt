@@ -1,5 +1,4 @@
 -- At most one outcome for a footprint. Assumes nothing.
-use Rattle.std.specs.Prelude.{Ok, Err}
 use mathlib.Core.Path.{◌≡◌, sym, subst, ◌∙◌}
 use mathlib.Core.Logic.{◌⊎◌, inl, inr, ⊎_elim}
 use mathlib.Core.List.{List}
@@ -15,14 +14,15 @@ use Rattle.rules.specs.Reach.{Corners}
 use Rattle.rules.specs.Refusal as rules
 use Rattle.rules.specs.Refusal.{refuse}
 use Rattle.rules.proofs.Checks.{Definite, AllDefinite, definite_demand, definite_in_turn}
-use Rattle.refusal.specs.Said.{Checked, Finds}
+use Rattle.std.specs.Prelude.{Ok, Err}
+use Rattle.refusal.specs.Said.{Checked}
+use Rattle.intake.specs.declared.Corner.{Corner}
 use Rattle.grid.specs.declared.Taken.{Taken}
 use Rattle.grid.specs.declared.Taken.TheVariants.{Grid, OffGrid, NotNumber, Beyond}
 use Rattle.grid.specs.Number.{Answer}
-use Rattle.intake.specs.declared.Corner.{Corner}
 use Rattle.intake.specs.Footprint.{put_checks, Put, Row, number_check, corner_at, corners_checks, intake_checks, HoldsCorners, Later, Intake}
-use Rattle.refusal.proofs.Unique.{finds_one, writes_one}
 use Rattle.grid.proofs.Once.{one_answer}
+use Rattle.refusal.proofs.Unique.{finds_one, writes_one}
 
 one_row : (t : Taken) (a b : ℕ) (r s : rules.Refusal) → Row t a b r → Row t a b s → r ≡ s
 one_row (Grid k) a b r s h i = absurd h
@@ -66,16 +66,11 @@ module _ (cs : List Corner) (n : ℕ) (before l m : List ℤ) where
   one_later (Err r) h i = h ∙ sym i
   one_later (Ok _) h i = stays_one (pos 0) (2 * n) before l m h.1 i.1 (same_at h.0 i.0)
 
-  -- two outcomes, answer and later list, of the first n corners
-  pub one_outcome : (r s : Checked) → Finds (intake_checks cs n (length before)) r → Finds (intake_checks cs n (length before)) s
-      → Later cs n before r l → Later cs n before s m → (r ≡ s) × (l ≡ m)
-  one_outcome r s f g h i =
-      let e : r ≡ s = finds_one (intake_checks cs n (length before)) (definite_intake cs n (length before)) r s f g in
-      (e, one_later s (subst (λ (q : Checked). Later cs n before q l) e h) i)
-
--- two outcomes that both meet the contract are equal
-pub one_intake : (cs : List Corner) (before l m : List ℤ) (r s : Checked) → Intake cs before r l → Intake cs before s m → (r ≡ s) × (l ≡ m)
-one_intake cs before l m r s h i = one_outcome cs (length cs) before l m r s h.finds i.finds h.list i.list
+  -- two outcomes, answer and later list, that both meet the contract are equal
+  pub one_intake : (r s : Checked) → Intake cs n before r l → Intake cs n before s m → (r ≡ s) × (l ≡ m)
+  one_intake r s h i =
+      let e : r ≡ s = finds_one (intake_checks cs n (length before)) (definite_intake cs n (length before)) r s h.finds i.finds in
+      (e, one_later s (subst (λ (q : Checked). Later cs n before q l) e h.list) i.list)
 
 -- numbers into a lent list
 pub put_one : (numbers before a b : List ℤ) (r s : Checked) → Put numbers before r a → Put numbers before s b → (r ≡ s) × (a ≡ b)

@@ -5,12 +5,12 @@ use Rattle.whole.specs.Front.{Stays, fronted}
 use Rattle.rules.specs.Reach.{Corners}
 use Rattle.rules.specs.Refusal as rules
 use Rattle.rules.specs.Refusal.{Check, Fault, demand, refuse, in_turn}
-use Rattle.refusal.specs.declared.Refusal.{Refusal}
 use Rattle.refusal.specs.Said.{said, Checked, Finds, Writes}
+use Rattle.refusal.specs.declared.Refusal.{Refusal}
 use Rattle.grid.specs.declared.Taken.{Taken}
 use Rattle.grid.specs.declared.Taken.TheVariants.{Grid, OffGrid, NotNumber, Beyond}
-use Rattle.grid.specs.Number.{Answer}
 use Rattle.intake.specs.declared.Corner.{Corner}
+use Rattle.grid.specs.Number.{Answer}
 
 -- the row of the table for an answer, with corner a and coordinate b
 abbrev pub Row : Taken → ℕ → ℕ → rules.Refusal → Type 0
@@ -50,9 +50,9 @@ Later cs n before (Ok _) later = HoldsCorners cs n later × Stays (pos 0) (2 * n
 Later cs n before (Err r) later = later ≡ before
 
 -- an intake: what is answered, and what the lent list holds
-pub record Intake (cs : List Corner) (before : List ℤ) (r : Checked) (later : List ℤ) : Type 0 where
-  pub finds : Finds (intake_checks cs (length cs) (length before)) r
-  pub list : Later cs (length cs) before r later
+pub record Intake (cs : List Corner) (n : ℕ) (before : List ℤ) (r : Checked) (later : List ℤ) : Type 0 where
+  pub finds : Finds (intake_checks cs n (length before)) r
+  pub list : Later cs n before r later
 
 -- ---- numbers into a lent list, which must be at least as long
 abbrev pub put_checks : List ℤ → List ℤ → List Check
@@ -63,10 +63,9 @@ abbrev pub Put : List ℤ → List ℤ → Checked → List ℤ → Type 0
 Put numbers before r later = Writes (put_checks numbers before) (fronted numbers before) before later r
 
 -- ---- the steps
--- a number's grid number, or its fault
-abbrev pub Numbered : Float → ℕ → ℕ → Result ℤ Refusal → Type 0
-Numbered x a b (Ok k) = Answer x (Grid k)
-Numbered x a b (Err r) = (number_check x a b).fails (said r)
+-- r is the refusal of an answer that is not taken
+abbrev pub Refuses : Taken → ℕ → ℕ → Refusal → Type 0
+Refuses t a b r = ((k : ℤ) → t ≡ Grid k → ⊥) → Row t a b (said r)
 
 -- a corner's two numbers, or its fault
 abbrev pub Paired : Corner → ℕ → Result (ℤ × ℤ) Refusal → Type 0
@@ -74,6 +73,6 @@ Paired c a (Ok (x, y)) = Answer c.x (Grid x) × Answer c.y (Grid y)
 Paired c a (Err r) = Fault (corner_checks c a) (said r)
 
 -- all corners' numbers, or the first fault
-abbrev pub Gathered : List Corner → Result (List ℤ) Refusal → Type 0
-Gathered cs (Ok l) = HoldsCorners cs (length cs) l × (length l ≡ 128)
-Gathered cs (Err r) = Fault (corners_checks cs (length cs)) (said r)
+abbrev pub Gathered : List Corner → ℕ → Result (List ℤ) Refusal → Type 0
+Gathered cs n (Ok l) = HoldsCorners cs n l × (length l ≡ 128)
+Gathered cs n (Err r) = Fault (corners_checks cs n) (said r)

@@ -1,8 +1,8 @@
 // The intake of exported corners into a lent list; the crate `grid` answers one number.
 #![tactic(auto)]
 
-ghost use Rattle.std.specs.Prelude.{◌≤◌, length};
-ghost use Rattle.intake.specs.Footprint.{Put, Numbered, Paired, Gathered, Intake};
+ghost use Rattle.std.specs.Prelude.{◌≤◌};
+ghost use Rattle.intake.specs.Footprint.{Put, Refuses, Paired, Gathered, Intake};
 
 use grid::{Taken, take};
 use refusal::Refusal;
@@ -14,35 +14,40 @@ pub struct Corner {
     pub y: f32,
 }
 
-// A coordinate's grid number, or its refusal.
-fn number(x: f32, corner: usize, axis: usize) -> Result<i32, Refusal>
-    ensures { Numbered x corner axis result }
+// The refusal of a number that is not taken: not a number, out of reach, or else off grid. A grid number is not asked about.
+fn refused(answer: Taken, corner: usize, axis: usize) -> Refusal
+    ensures { Refuses answer corner axis result }
 {
-    match take(x) {
-        Taken::Grid(k) => Ok(k),
-        Taken::NotNumber => Err(Refusal::NotNumber(corner, axis)),
-        Taken::Beyond => Err(Refusal::Beyond(corner, axis)),
-        Taken::OffGrid(_) => Err(Refusal::OffGrid(corner, axis)),
+    match answer {
+        Taken::NotNumber => Refusal::NotNumber(corner, axis),
+        Taken::Beyond => Refusal::Beyond(corner, axis),
+        _ => Refusal::OffGrid(corner, axis),
     }
 }
 
-// A corner's grid numbers: x is looked at before y.
+// x is looked at before y. The specification asks for each answer taken apart by let .. else.
 fn pair(corner: Corner, i: usize) -> Result<(i32, i32), Refusal>
     ensures { Paired corner i result }
 {
-    let x = number(corner.x, i, 0)?;
-    let y = number(corner.y, i, 1)?;
+    let first = take(corner.x);
+    let Taken::Grid(x) = first else {
+        return Err(refused(first, i, 0));
+    };
+    let second = take(corner.y);
+    let Taken::Grid(y) = second else {
+        return Err(refused(second, i, 1));
+    };
     Ok((x, y))
 }
 
 // The corners in their order, into numbers of our own.
-fn gather(corners: &[Corner]) -> Result<[i32; 128], Refusal>
-    requires { length corners.now ≤ 64 }
-    ensures { Gathered corners.now result }
+fn gather(corners: [Corner; 64], count: usize) -> Result<[i32; 128], Refusal>
+    requires { count ≤ 64 }
+    ensures { Gathered corners count result }
 {
     let mut numbers = [0; 128];
-    for (i, corner) in corners.iter().enumerate() {
-        let (x, y) = pair(*corner, i)?;
+    for i in 0..count {
+        let (x, y) = pair(corners[i], i)?;
         numbers[2 * i] = x;
         numbers[2 * i + 1] = y;
     }
@@ -60,17 +65,17 @@ pub fn put(numbers: &[i32], list: &mut [i32]) -> Result<(), Refusal>
     Ok(())
 }
 
-// A footprint: three to 64 corners into a lent list, x then y. The list changes only where every corner is taken.
-pub fn intake(corners: &[Corner], list: &mut [i32]) -> Result<(), Refusal>
-    ensures { Intake corners.now list.old result list.new }
+// A footprint: `count` corners into a lent list, x then y. The list changes only where every corner is taken.
+// The specification asks for corners by value.
+pub fn intake(corners: [Corner; 64], count: usize, list: &mut [i32]) -> Result<(), Refusal>
+    ensures { Intake corners count list.old result list.new }
 {
-    let count = corners.len();
     if count < 3 || 64 < count {
         return Err(Refusal::Corners);
     }
     if list.len() < 2 * count {
         return Err(Refusal::Short);
     }
-    let numbers = gather(corners)?;
+    let numbers = gather(corners, count)?;
     put(&numbers[..2 * count], list)
 }

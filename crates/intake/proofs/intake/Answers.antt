@@ -12,7 +12,7 @@ use Rattle.intake.proofs.intake.Goals.{then-count-lt3-via-then-count-lt3, then-c
 
 pub returns-then-count-lt3 : goal.returns-then-count-lt3
 returns-then-count-lt3 c =
-    let few : Corners (length c.args.corners.now) → ⊥ =
+    let few : Corners c.args.count → ⊥ =
     λ h. elim c.then-count-lt3.branch [ then-count-lt3-via-then-count-lt3 w ↦ omega arith | then-count-lt3-via-else-count-lt3+then-count-gt64 w ↦ omega arith ] in
     record { finds = beyond_count _ _ _ few; list = refl }
 
@@ -31,16 +31,16 @@ returns-in_err-numbers c =
 -- all corners are good
 pub returns : goal.returns
 returns c =
-    let cs = c.args.corners.now in
+    let cs = c.args.corners in
     let l = c.in_ok-numbers.numbers in
     let before = c.args.list.now in
-    let n : Corners (length cs) = record { least = omega arith; most = omega arith } in
-    let room : 2 * length cs ≤ length before = omega arith in
+    let n : Corners c.args.count = record { least = omega arith; most = omega arith } in
+    let room : 2 * c.args.count ≤ length before = omega arith in
     let h = c.in_ok-numbers.ensures in
-    let front = take (2 * length cs) l in
-    let fits = put_fits cs (length cs) l before h.1 n.most room in
+    let front = take (2 * c.args.count) l in
+    let fits = put_fits cs c.args.count l before h.1 n.most room in
     let w = written (put_checks front before) (definite_demand _ _, tt) (fronted front before) before _ c.put.result c.put.ensures (fits, tt) in
     rw (w.0, w.1) record {
-      finds = all_good cs (length cs) (length before) n room l h.0;
-      list = put_later cs (length cs) l before h.1 n.most room h.0;
+      finds = all_good cs c.args.count (length before) n room l h.0;
+      list = put_later cs c.args.count l before h.1 n.most room h.0;
     }
