@@ -1,13 +1,13 @@
 // What every block is looked at for: its length and check, then the bytes of its kind that are no numbers.
-ghost use Rattle.std.specs.Prelude.{◌≡◌, ◌++◌, length};
+ghost use Rattle.std.specs.Prelude.{◌++◌};
 ghost use Rattle.refusal.specs.Said.{Finds};
 ghost use Rattle.rules.specs.Refusal.{Sought};
-ghost use Rattle.seal.specs.Seal.{block_size, block_checks};
+ghost use Rattle.seal.specs.Seal.{block_checks};
 ghost use Rattle.block.specs.Reading.{Misspelt, header_bytes, run_bytes, piece_bytes, bytes_of};
 
 use crate::layout::{EDITION, MOST, NAME, PIECE, RUN};
 use refusal::Refusal;
-use seal::{check_block, check_unnamed};
+use seal::{SIZE, check_block, check_unnamed};
 
 #[derive(Clone, Copy)]
 pub enum Kind {
@@ -17,8 +17,7 @@ pub enum Kind {
 }
 
 // The first of the name's letters that is another byte.
-fn first_letter(block: &[u8]) -> Option<usize>
-    requires { length block.now ≡ block_size }
+fn first_letter(block: &[u8; SIZE]) -> Option<usize>
     ensures { Sought (Misspelt block.now) 4 result }
 {
     NAME.iter()
@@ -27,8 +26,7 @@ fn first_letter(block: &[u8]) -> Option<usize>
 }
 
 // The bytes of a header, by rising offset.
-fn check_header_bytes(block: &[u8]) -> Result<(), Refusal>
-    requires { length block.now ≡ block_size }
+fn check_header_bytes(block: &[u8; SIZE]) -> Result<(), Refusal>
     ensures { Finds (header_bytes block.now) result }
 {
     if let Some(at) = first_letter(block) {
@@ -46,8 +44,7 @@ fn check_header_bytes(block: &[u8]) -> Result<(), Refusal>
 }
 
 // The bytes of a run block that are no numbers, by rising offset.
-fn check_run_bytes(block: &[u8]) -> Result<(), Refusal>
-    requires { length block.now ≡ block_size }
+fn check_run_bytes(block: &[u8; SIZE]) -> Result<(), Refusal>
     ensures { Finds (run_bytes block.now) result }
 {
     let kind = block[0];
@@ -62,8 +59,7 @@ fn check_run_bytes(block: &[u8]) -> Result<(), Refusal>
 }
 
 // The bytes of a piece block that are no numbers: kind, corner count, unnamed bytes.
-fn check_piece_bytes(block: &[u8]) -> Result<(), Refusal>
-    requires { length block.now ≡ block_size }
+fn check_piece_bytes(block: &[u8; SIZE]) -> Result<(), Refusal>
     ensures { Finds (piece_bytes block.now) result }
 {
     let kind = block[0];
@@ -80,14 +76,15 @@ fn check_piece_bytes(block: &[u8]) -> Result<(), Refusal>
     check_unnamed(block, 12 + 4 * count)
 }
 
-fn check_bytes(block: &[u8], kind: Kind) -> Result<(), Refusal>
-    requires { length block.now ≡ block_size }
-    ensures { Finds (bytes_of kind block.now) result }
-{
-    match kind {
-        Kind::Header => check_header_bytes(block),
-        Kind::Run => check_run_bytes(block),
-        Kind::Piece => check_piece_bytes(block),
+impl Kind {
+    fn check_bytes(self, block: &[u8; SIZE]) -> Result<(), Refusal>
+        ensures { Finds (bytes_of self block.now) result }
+    {
+        match self {
+            Kind::Header => check_header_bytes(block),
+            Kind::Run => check_run_bytes(block),
+            Kind::Piece => check_piece_bytes(block),
+        }
     }
 }
 
@@ -95,5 +92,5 @@ pub fn check_kind(block: &[u8], kind: Kind) -> Result<(), Refusal>
     ensures { Finds (block_checks block.now ++ bytes_of kind block.now) result }
 {
     check_block(block)?;
-    check_bytes(block, kind)
+    kind.check_bytes(block.as_array().unwrap())
 }

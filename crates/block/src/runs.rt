@@ -13,14 +13,11 @@ use refusal::Refusal;
 use seal::{SIZE, write_parts};
 
 // The numbers where a run's stand; its ticks are unsigned.
-fn run_at(block: &[u8]) -> Run
-    requires { length block.now ≡ block_size }
+fn run_at(block: &[u8; SIZE]) -> Run
     ensures { RunAt block.now result }
 {
     let mut numbers = [0i32; 6];
     read_pairs(&block[2..14], &mut numbers).unwrap();
-    let low = block[14] as u32;
-    let high = block[15] as u32;
     Run {
         x: numbers[0],
         y: numbers[1],
@@ -28,7 +25,7 @@ fn run_at(block: &[u8]) -> Run
         vx: numbers[3],
         vy: numbers[4],
         vz: numbers[5],
-        ticks: low + 256 * high,
+        ticks: u16::from_le_bytes([block[14], block[15]]) as u32,
     }
 }
 
@@ -36,7 +33,7 @@ pub fn read_run(block: &[u8]) -> Result<Run, Refusal>
     ensures { RunSays block.now result }
 {
     check_kind(block, Kind::Run)?;
-    let run = run_at(block);
+    let run = run_at(block.as_array().unwrap());
     check_run(run)?;
     Ok(run)
 }

@@ -19,5 +19,5 @@ returns-then-pieces-gt-MOST c = inr (c.in_default.ensures, inr (c.if-edition-ne-
 
 pub returns : goal.returns
 returns c =
-    header_last c.args.block.now c.check_unnamed.result c.requires c.in_default.ensures c.if-edition-ne-EDITION.false c.if-pieces-gt-MOST.false
+    header_last c.args.block.now c.check_unnamed.result (omega arith) c.in_default.ensures c.if-edition-ne-EDITION.false c.if-pieces-gt-MOST.false
     c.check_unnamed.ensures

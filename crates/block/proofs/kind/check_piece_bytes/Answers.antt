@@ -19,5 +19,5 @@ returns-then-count-gt64 c = inr (c.if-kind-ne-PIECE.false, inl (λ h. let l = h.
 
 pub returns : goal.returns
 returns c =
-    piece_last c.args.block.now c.check_unnamed.result c.requires c.if-kind-ne-PIECE.false (record { least = c.if-count-lt3.false; most = c.if-count-gt64.false })
+    piece_last c.args.block.now c.check_unnamed.result (omega arith) c.if-kind-ne-PIECE.false (record { least = c.if-count-lt3.false; most = c.if-count-gt64.false })
     c.check_unnamed.ensures

@@ -1,5 +1,5 @@
 -- `block::kind::check_run_bytes` meets its contract: the kind, the second byte, then the unnamed bytes, each looked at where those before it are right. Assumes nothing.
-use Rattle.std.proofs.Common.{refl}
+use Rattle.std.proofs.Common.{refl, arith}
 use mathlib.Core.Logic.{inl, inr}
 use Rattle.block.specs.Reading.{run_bytes}
 use Rattle.block.proofs.KindLaws.{run_last}
@@ -14,4 +14,4 @@ unfolding run_bytes
 returns-then-second-ne0 c = inr (c.if-kind-ne-RUN.false, inl (c.if-second-ne0.true, refl))
 
 pub returns : goal.returns
-returns c = run_last c.args.block.now c.check_unnamed.result c.requires c.if-kind-ne-RUN.false c.if-second-ne0.false c.check_unnamed.ensures
+returns c = run_last c.args.block.now c.check_unnamed.result (omega arith) c.if-kind-ne-RUN.false c.if-second-ne0.false c.check_unnamed.ensures

@@ -1,5 +1,5 @@
 -- `block::runs::run_at` meets its contract: the numbers stand in a part of the block. Assumes nothing.
-use Rattle.std.proofs.Common.{refl, ℕ, ◌+◌, ◌*◌, ◌<◌, arith, get_or, take, drop, replicate}
+use Rattle.std.proofs.Common.{ℕ, ◌+◌, ◌*◌, ◌<◌, arith, get_or, take, drop, replicate}
 use lib.IntN.{pos}
 use mir.Syntax.{w32}
 use mir.Val.{to_z, of_z}
@@ -12,7 +12,7 @@ use Rattle.block.proofs.runs.run_at.Goals as goal
 pub returns : goal.returns
 returns c =
     let l = c.args.block.now in let zs = c.read_pairs.new.numbers in
-    let p = (pairs_read (take 12 (drop 2 l)) (replicate 6 (pos 0)) zs c.read_pairs.result c.read_pairs.ensures (part_length l 2 12 (omega (arith, c.requires)))).1 in
+    let p = (pairs_read (take 12 (drop 2 l)) (replicate 6 (pos 0)) zs c.read_pairs.result c.read_pairs.ensures (part_length l 2 12 (omega arith))).1 in
     let at : (j : ℕ) → 2 * j + 1 < 12 → NumberAt l (0 + j) (to_z w32 (of_z w32 (get_or zs j (pos 0)))) = part_local l 0 12 zs p in
     record {
       x = at 0 (omega arith);
@@ -21,5 +21,5 @@ returns c =
       vx = at 3 (omega arith);
       vy = at 4 (omega arith);
       vz = at 5 (omega arith);
-      ticks = refl;
+      ticks = omega arith;
     }
