@@ -1,6 +1,6 @@
 -- A run and its block: what a block holds, and that the block of a good run passes. Assumes nothing.
 use mathlib.Core.Path.{◌≡◌, refl, sym, subst, ◌∙◌}
-use mathlib.Core.Logic.{⊎_elim}
+use mathlib.Core.Logic.{inl, ⊎_elim}
 use mathlib.Core.List.{List, [], ◌∷◌, ◌++◌}
 use Prim.Native.Nat.{ℕ, zero, suc, ◌+◌, ◌*◌, ◌≤◌, ◌<◌}
 use native.Mathlib.Omega.{arith}
@@ -13,10 +13,11 @@ use mir.Val.{Fits, SFits, to_z, of_z}
 use mir.Facts.{to_z-of_z, to_z_pos}
 use Rattle.whole.proofs.Order.{ℕ_or}
 use Rattle.rules.specs.Reach.{Run}
-use Rattle.rules.specs.Refusal.{Passes}
+use Rattle.rules.specs.Refusal as rules
+use Rattle.rules.specs.Refusal.{Passes, Fault}
 use Rattle.rules.specs.Good.{RunKnown, run_checks}
 use Rattle.rules.proofs.Reach.{run_known}
-use Rattle.rules.proofs.Checks.{passes_append, passes_left, passes_right}
+use Rattle.rules.proofs.Checks.{passes_append, passes_left, passes_right, fault_left, fault_right}
 use Rattle.good.specs.declared.Run as plain
 use Rattle.good.specs.Numbers.{run_of}
 use Rattle.block.specs.Layout.{run_kind, run_numbers, run_body, run_block}
@@ -94,6 +95,15 @@ module _ (l : List ℕ) (r : plain.Run) (at : RunAt l r) (bytes : (i : ℕ) → 
 
   pub run_in : RunIn l (run_of r)
   run_in = record { signed = signed; ticks = omega (arith, at.ticks, bytes 14, bytes 15); same = same }
+
+-- ---- the block of a run that is refused
+pub bytes_refused : (l : List ℕ) (x : rules.Refusal) → Fault (block_checks l ++ run_bytes l) x → Fault (run_block_checks l) x
+unfolding run_block_checks
+bytes_refused l x f = fault_left (block_checks l ++ run_bytes l) (inside (RunIn l) run_checks ∷ []) x f
+
+pub run_refused : (l : List ℕ) (r : Run) (x : rules.Refusal) → Passes (block_checks l ++ run_bytes l) → RunIn l r → Fault (run_checks r) x → Fault (run_block_checks l) x
+unfolding run_block_checks
+run_refused l r x p i f = fault_right (block_checks l ++ run_bytes l) (inside (RunIn l) run_checks ∷ []) x p (inl (r, i, f))
 
 -- ---- the block of a good run passes
 pub good_in : (r : Run) → Passes (run_checks r) → RunIn (run_block r) r

@@ -6,6 +6,7 @@ use crate::layout::{EDITION, MOST, NAME};
 use refusal::Refusal;
 use seal::{SIZE, write_parts};
 
+#[tactic(auto, using(crate::proofs::Headers::header_length, crate::proofs::Headers::header_count, crate::proofs::Headers::header_is), unfolding(crate::specs::Reading::header_checks))]
 pub fn read_header(block: &[u8]) -> Result<u32, Refusal>
     ensures { HeaderSays block.now result }
 {

@@ -26,51 +26,46 @@ fn first_letter(block: &[u8; SIZE]) -> Option<usize>
 }
 
 // The bytes of a header, by rising offset.
+#[tactic(auto, using(crate::proofs::KindLaws::header_last), unfolding(crate::specs::Reading::header_bytes))]
 fn check_header_bytes(block: &[u8; SIZE]) -> Result<(), Refusal>
     ensures { Finds (header_bytes block.now) result }
 {
     if let Some(at) = first_letter(block) {
         return Err(Refusal::Kind(at));
     }
-    let edition = block[4];
-    if edition != EDITION {
+    if block[4] != EDITION {
         return Err(Refusal::Kind(4));
     }
-    let pieces = block[5] as usize;
-    if MOST < pieces {
+    if MOST < block[5] as usize {
         return Err(Refusal::Kind(5));
     }
     check_unnamed(block, 6)
 }
 
 // The bytes of a run block that are no numbers, by rising offset.
+#[tactic(auto, using(crate::proofs::KindLaws::run_last), unfolding(crate::specs::Reading::run_bytes))]
 fn check_run_bytes(block: &[u8; SIZE]) -> Result<(), Refusal>
     ensures { Finds (run_bytes block.now) result }
 {
-    let kind = block[0];
-    if kind != RUN {
+    if block[0] != RUN {
         return Err(Refusal::Kind(0));
     }
-    let second = block[1];
-    if second != 0 {
+    if block[1] != 0 {
         return Err(Refusal::Kind(1));
     }
     check_unnamed(block, 16)
 }
 
 // The bytes of a piece block that are no numbers: kind, corner count, unnamed bytes.
+#[tactic(auto, using(crate::proofs::KindLaws::piece_last), unfolding(crate::specs::Reading::piece_bytes))]
 fn check_piece_bytes(block: &[u8; SIZE]) -> Result<(), Refusal>
     ensures { Finds (piece_bytes block.now) result }
 {
-    let kind = block[0];
-    if kind != PIECE {
+    if block[0] != PIECE {
         return Err(Refusal::Kind(0));
     }
     let count = block[1] as usize;
-    if count < 3 {
-        return Err(Refusal::Corners);
-    }
-    if 64 < count {
+    if !(3..=64).contains(&count) {
         return Err(Refusal::Corners);
     }
     check_unnamed(block, 12 + 4 * count)
@@ -88,6 +83,7 @@ impl Kind {
     }
 }
 
+#[tactic(auto, using(rules::proofs::Checks::fault_left, refusal::proofs::Finds::finds_right), unfolding(seal::specs::Seal::block_checks))]
 pub fn check_kind(block: &[u8], kind: Kind) -> Result<(), Refusal>
     ensures { Finds (block_checks block.now ++ bytes_of kind block.now) result }
 {

@@ -18,17 +18,19 @@ fn run_at(block: &[u8; SIZE]) -> Run
 {
     let mut numbers = [0i32; 6];
     read_pairs(&block[2..14], &mut numbers).unwrap();
+    let [x, y, z, vx, vy, vz] = numbers;
     Run {
-        x: numbers[0],
-        y: numbers[1],
-        z: numbers[2],
-        vx: numbers[3],
-        vy: numbers[4],
-        vz: numbers[5],
+        x,
+        y,
+        z,
+        vx,
+        vy,
+        vz,
         ticks: u16::from_le_bytes([block[14], block[15]]) as u32,
     }
 }
 
+#[tactic(auto, using(crate::proofs::RunLaws::run_in, crate::proofs::RunLaws::bytes_refused), unfolding(seal::specs::Seal::block_checks))]
 pub fn read_run(block: &[u8]) -> Result<Run, Refusal>
     ensures { RunSays block.now result }
 {
@@ -39,6 +41,7 @@ pub fn read_run(block: &[u8]) -> Result<Run, Refusal>
 }
 
 // The run block's bytes 2 to 15, for whoever has a run among other bytes.
+#[tactic(auto, using(crate::proofs::RunLaws::good_ticks), unfolding(crate::specs::Reading::run_body_asked))]
 pub fn write_run_body(run: Run, bytes: &mut [u8]) -> Result<(), Refusal>
     ensures { WriteRunBodySays (run_of run) bytes.old bytes.new result }
 {
@@ -51,6 +54,7 @@ pub fn write_run_body(run: Run, bytes: &mut [u8]) -> Result<(), Refusal>
     write_pairs(&numbers, bytes)
 }
 
+#[tactic(auto, unfolding(crate::specs::Reading::run_asked, crate::specs::Reading::run_body_asked))]
 pub fn write_run(run: Run, block: &mut [u8]) -> Result<(), Refusal>
     ensures { WriteRunSays (run_of run) block.old block.new result }
 {

@@ -1,24 +1,12 @@
 -- `block::runs::write_run` meets its contract: two bytes, and then the run's. Assumes nothing.
-use Rattle.std.proofs.Common.{refl, ap, ◌∙◌, List, ℕ, ◌∷◌, arith, length}
-use Rattle.std.proofs.lemmas.Result.{err_from_is_err_and}
+use Rattle.std.proofs.Common.{ap, ◌∙◌, List, ℕ, ◌∷◌, arith, length}
 use mathlib.Core.List.{append-nil}
-use mathlib.Core.Logic.{inl, inr, ⊎_elim}
 use Rattle.good.specs.Numbers.{run_of}
 use Rattle.seal.proofs.PartLaws.{front_writes}
 use Rattle.block.specs.Layout.{run_kind, run_body, run_block}
 use Rattle.block.specs.Reading.{run_asked, run_body_asked}
 use Rattle.block.proofs.Bodies.{run_body_length}
 use Rattle.block.proofs.runs.write_run.Goals as goal
-
-pub returns-then-block-ne-SIZE : goal.returns-then-block-ne-SIZE
-unfolding run_asked
-returns-then-block-ne-SIZE c = (inl (c.if-block-ne-SIZE.true, refl), refl)
-
-pub returns-in_err-write_run_body : goal.returns-in_err-write_run_body
-unfolding run_asked run_body_asked
-returns-in_err-write_run_body c =
-    let p = err_from_is_err_and c.from_residual.result c.from_residual.ensures.1 in
-    rw (p.1, p.2) (inr (c.if-block-ne-SIZE.false, ⊎_elim (λ h. absurd (h.0 refl)) (λ h. h.1) c.in_err-write_run_body.ensures.0), refl)
 
 pub returns : goal.returns
 unfolding run_asked run_body_asked run_block

@@ -1,28 +1,13 @@
 -- `block::runs::write_run_body` meets its contract: the numbers of a good run are what two bytes hold. Assumes nothing.
-use Rattle.std.proofs.Common.{refl, sym, subst, List, arith}
-use Rattle.std.proofs.lemmas.Result.{err_from_is_err_and}
-use mathlib.Core.Logic.{inl, inr}
+use Rattle.std.proofs.Common.{sym, subst, List}
 use lib.IntN.{ℤ}
 use Rattle.good.specs.Numbers.{run_of}
 use Rattle.pair.specs.Pair.{WritePairsSays}
 use Rattle.pair.proofs.Caller.{pairs_written}
 use Rattle.block.specs.Layout.{run_numbers, run_body}
 use Rattle.block.specs.Reading.{run_body_asked, WriteRunBodySays}
-use Rattle.block.proofs.RunLaws.{good_ticks, good_halves, read_good}
+use Rattle.block.proofs.RunLaws.{good_halves, read_good}
 use Rattle.block.proofs.runs.write_run_body.Goals as goal
-
-pub returns-then-bytes-ne-RUN_BODY : goal.returns-then-bytes-ne-RUN_BODY
-unfolding run_body_asked
-returns-then-bytes-ne-RUN_BODY c = (inl (c.if-bytes-ne-RUN_BODY.true, refl), refl)
-
-pub overflow_cast-ticks : goal.overflow_cast-ticks
-overflow_cast-ticks c = let h = good_ticks (run_of c.args.run) c.in_ok-check_run.ensures in record { sfits = omega arith }
-
-pub returns-in_err-check_run : goal.returns-in_err-check_run
-unfolding run_body_asked
-returns-in_err-check_run c =
-    let p = err_from_is_err_and c.from_residual.result c.from_residual.ensures.1 in
-    rw (p.1, p.2) (inr (c.if-bytes-ne-RUN_BODY.false, c.in_err-check_run.ensures), refl)
 
 pub returns : goal.returns
 unfolding run_body_asked run_body
