@@ -1,5 +1,4 @@
 -- Every refusal that an export can give fits in the bits of its code. Assumes nothing.
-use Rattle.std.specs.Prelude.{Ok, Err}
 use Rattle.grid.specs.declared.Taken.TheVariants.{Grid, OffGrid, NotNumber, Beyond}
 use mathlib.Core.Path.{sym, subst}
 use mathlib.Core.List.{List}

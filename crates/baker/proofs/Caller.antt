@@ -1,5 +1,5 @@
 -- What a C caller knows from the macros alone, where BAKER_REFUSED says 0. Assumes nothing.
-use Rattle.std.specs.Prelude.{Ok, Err}
+use Rattle.std.specs.Prelude.{None, Some, Result, Ok, Err}
 use mathlib.Core.Path.{◌≡◌, sym, subst}
 use mathlib.Core.Logic.{◌⊎◌, inl, inr, ⊎_elim}
 use mathlib.Core.List.{List}
@@ -10,28 +10,24 @@ use lib.Ieee.{Float}
 use Rattle.rules.specs.Reach.{Run, Piece}
 use Rattle.rules.specs.Good.{run_checks, piece_checks}
 use Rattle.rules.specs.Verdict as rules
-use Rattle.rules.specs.Verdict.{answer}
-use Rattle.refusal.specs.Said.{Finds, Writes}
-use Rattle.refusal.specs.Said.{Checked}
-use Rattle.piece.specs.Tells.{coded_of}
-use Rattle.piece.proofs.Tells.{TellsCode, tells_code}
---TODO use Rattle.piece.specs.declared.motion.Coded as piece
+use Rattle.rules.specs.Verdict.{NONE, answer}
+use Rattle.refusal.specs.declared.Refusal.{Refusal}
+use Rattle.refusal.specs.Said.{Checked, Finds, Writes}
+use Rattle.piece.specs.Tells.{Verdict, Tells}
+use Rattle.piece.proofs.Tells.{tells_code}
 use Rattle.block.specs.Layout.{header_block, run_block}
 use Rattle.piece_block.specs.Layout.{piece_block}
-use Rattle.block.specs.Reading.{header_asked, run_asked, HeaderSays}
+use Rattle.block.specs.Reading.{HeaderRead, header_asked, run_asked, HeaderSays}
 use Rattle.piece_block.specs.Reading.{piece_asked}
-use Rattle.block.specs.Reading.{HeaderRead}
-use Rattle.obj.specs.File.{Drawn, ObjSays}
-use Rattle.obj.specs.File.{Outline}
+use Rattle.obj.specs.File.{Outline, Drawn, ObjSays}
+use Rattle.room.specs.Image.{Counted}
 use Rattle.room.specs.Verdicts.{Filled, VerdictsSay}
-use Rattle.room.specs.declared.Counted.{Counted}
-use Rattle.room.specs.declared.Counted.TheVariants as counted
 use Rattle.book.specs.Ask.{AskSays, Hits, Misses, Kept}
 use Rattle.book.specs.declared.Asked.{Asked}
 use Rattle.book.specs.declared.Asked.TheVariants as asked
 use Rattle.book.proofs.Kept.{true_hit}
 use Rattle.coding.specs.Macros as macro
-use Rattle.coding.specs.Coded.{Coded, checked_means, coded_means, header_means, counted_means, asked_means, outline_means, checked_code}
+use Rattle.coding.specs.Coded.{Coded, checked_means, verdict_means, header_means, counted_means, asked_means, outline_means, checked_code}
 use Rattle.coding.specs.Told.{Macros, Reads}
 use Rattle.baker.specs.Export.{Exported}
 use Rattle.baker.specs.Calls.{CheckRunGives, CheckPieceGives, VerdictGives, WriteHeaderGives, WriteRunGives, WritePieceGives, ReadHeaderGives, RoomVerdictsGives, AskGives, IntakeGives, ObjGives}
@@ -71,10 +67,11 @@ coded r k c n e v = subst (λ (m : ℕ). rules.Verdict r k (answer m)) (sym e) v
 
 -- of baker_verdict: BAKER_VALUE is the code of the verdict
 pub verdict_value : (r : Run) (k : Piece) (c : ℕ) → VerdictGives r k c → macro.refused c ≡ 0 → rules.Verdict r k (answer (macro.value c))
-verdict_value r k c h z = by_case (coded_of h.answer) (tells_code r k h.answer h.says) (verdict_read r k c h).macros
+verdict_value r k c h z = by_case h.answer h.says (verdict_read r k c h).macros
   where
-    by_case : (x : piece.Coded) → TellsCode r k x → Macros c (coded_means x) → rules.Verdict r k (answer (macro.value c))
-    by_case (Ok n) t m = coded r k (macro.value c) n m.value t.verdict
+    by_case : (x : Verdict) → Tells r k x → Macros c (verdict_means x) → rules.Verdict r k (answer (macro.value c))
+    by_case (Ok None) t m = let w = tells_code r k (Ok None) t in coded r k (macro.value c) NONE m.value w.verdict
+    by_case (Ok (Some n)) t m = let w = tells_code r k (Ok (Some n)) t in coded r k (macro.value c) n m.value w.verdict
     by_case (Err x) t m = let e = m.refused in absurd (omega arith)
 
 -- of baker_read_header, baker_room_verdicts and baker_obj: it is the count
@@ -96,8 +93,8 @@ pub room_verdicts_value : (r : Run) (image before after : List ℕ) (c : ℕ) �
 room_verdicts_value r image before after c h z = by_case h.answer h.says (room_verdicts_read r image before after c h).macros
   where
     by_case : (x : Counted) → VerdictsSay r image before after x → Macros c (counted_means x) → Filled r image before after (macro.value c)
-    by_case (counted.Count n) t m = subst (Filled r image before after) (sym m.value) t
-    by_case (counted.Refused x b) t m = let e = m.refused in absurd (omega arith)
+    by_case (Ok n) t m = subst (Filled r image before after) (sym m.value) t
+    by_case (Err x) t m = let e = m.refused in absurd (omega arith)
 
 -- of baker_ask: BAKER_REMEMBERED tells a hit, which changed nothing, from a verdict that was worked out and stored
 module _ (r : Run) (k : Piece) (book after : List ℕ) (c : ℕ) (h : AskGives r k book after c) (z : macro.refused c ≡ 0) where
@@ -110,10 +107,10 @@ module _ (r : Run) (k : Piece) (book after : List ℕ) (c : ℕ) (h : AskGives r
   pub ask_value : AHit ⊎ AMiss
   ask_value = by_case h.answer h.says (ask_read r k book after c h).macros
     where
-      by_case : (x : Asked) → AskSays book after r k x → Macros c (asked_means x) → AHit ⊎ AMiss
-      by_case (asked.Remembered n) t m = inl (m.remembered, subst (Hits book after r k) (sym m.value) t)
-      by_case (asked.Worked n) t m = inr (m.remembered, subst (Misses book after r k) (sym m.value) t)
-      by_case (asked.Refused x) t m = let e = m.refused in absurd (omega arith)
+      by_case : (x : Result Asked Refusal) → AskSays book after r k x → Macros c (asked_means x) → AHit ⊎ AMiss
+      by_case (Ok (asked.Remembered n)) t m = inl (m.remembered, subst (Hits book after r k) (sym m.value) t)
+      by_case (Ok (asked.Worked n)) t m = inr (m.remembered, subst (Misses book after r k) (sym m.value) t)
+      by_case (Err x) t m = let e = m.refused in absurd (omega arith)
 
   -- and in a book that began empty and was written by asking alone BAKER_VALUE is the code of the verdict
   pub ask_true : Kept book → rules.Verdict r k (answer (macro.value c))

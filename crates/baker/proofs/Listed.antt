@@ -17,11 +17,11 @@ use Rattle.refusal.specs.Said.{Writes}
 use Rattle.refusal.proofs.Unique.{written}
 use Rattle.refusal.specs.Said.{Checked}
 use Rattle.piece_block.specs.declared.PieceRead.{PieceRead}
-use Rattle.piece_block.specs.Reading.{PieceFound, PieceSays}
+use Rattle.piece_block.specs.Reading.{PieceGood}
 use Rattle.piece_block.proofs.PieceLaws.{held_few}
 use Rattle.intake.specs.Footprint.{put_checks}
 use Rattle.coding.specs.Coded.{refusal_code, checked_code, out, coded}
-use Rattle.baker.specs.Listed.{kept, listed, piece_found}
+use Rattle.baker.specs.Listed.{kept, listed}
 
 module _ (least : ℕ) (before : List ℤ) (c : ℕ) (l : List ℤ) where
   pub long : least ≤ length before → coded (listed least before c l) ≡ out c (fronted l before)
@@ -59,19 +59,5 @@ laid_two before l m =
 
 -- ---- a piece that was read
 -- it has so many corners
-read_found : (l : List ℕ) (r : PieceRead) (x : Checked) → PieceFound l r x → r.count ≤ 64
-read_found l r (Ok _) f = omega (arith, held_few l r f)
-read_found l r (Err x) f = omega (arith, f.holds.count)
-
-pub read_few : (l : List ℕ) (r : PieceRead) → PieceSays l r → r.count ≤ 64
-read_few l r f = read_found l r r.found f
-
--- it is good where the code of what was found is 0; any other code is answered, and the list is kept
-pub found_good : (x : Checked) (c : ℕ) → c ≡ checked_code x → c ≡ 0 → x ≡ Ok tt
-unfolding refusal_code
-found_good (Ok _) c e z = refl
-found_good (Err x) c e z = absurd (omega arith)
-
-pub found_kept : (before : List ℤ) (r : PieceRead) (x : Checked) (c : ℕ) → c ≡ checked_code x → (c ≡ 0 → ⊥) → out c before ≡ coded (piece_found before r x)
-found_kept before r (Ok _) c e n = absurd (n e)
-found_kept before r (Err x) c e n = ap (λ (k : ℕ). out k before) e
+pub read_few : (l : List ℕ) (r : PieceRead) → PieceGood l r → r.count ≤ 64
+read_few l r f = omega (arith, held_few l r f)

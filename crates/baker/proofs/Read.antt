@@ -1,7 +1,5 @@
 -- What a C caller reads from what each call gives, by the macros and by `told`, is that call's answer. Assumes nothing.
-use Rattle.std.specs.Prelude.{Ok, Err}
-use Rattle.grid.specs.declared.Taken.TheVariants.{Grid, OffGrid, NotNumber, Beyond}
-use Rattle.piece.specs.declared.spot.Spot.TheVariants.{On, Inside, Outside}
+use Rattle.std.specs.Prelude.{None, Some, Result, Ok, Err}
 use mathlib.Core.Bool.{Bool, true, false, cond}
 use mathlib.Core.List.{List}
 use Prim.Native.Nat.{ℕ, suc, ◌*◌, ◌≤◌, ◌<◌, ◌^◌}
@@ -16,50 +14,43 @@ use Rattle.rules.specs.Ring.{Pt}
 use Rattle.rules.specs.Refusal.{refuse, Check, Passes}
 use Rattle.rules.specs.Good.{run_checks, piece_checks}
 use Rattle.rules.proofs.Checks.{passes_left, passes_right}
-use Rattle.refusal.specs.Said.{said, Finds, Writes, said_in}
-use Rattle.refusal.specs.Said.{Checked}
-use Rattle.piece.specs.Place.{Lies}
-use Rattle.piece.specs.Tells.{Tells, coded_of}
-use Rattle.piece.proofs.Tells.{TellsCode, tells_code}
-use Rattle.piece.specs.Place.{Placed}
---TODO use Rattle.piece.specs.declared.motion.Coded as piece
+use Rattle.refusal.specs.declared.Refusal as declared
+use Rattle.refusal.specs.Said.{said, Checked, Finds, Writes}
 use Rattle.good.specs.Numbers.{run_of, piece_of}
-use Rattle.block.specs.Layout.{header_block, run_numbers, run_block}
-use Rattle.piece_block.specs.Layout.{piece_numbers, piece_block}
+use Rattle.piece.specs.declared.spot.Spot.TheVariants.{On, Inside, Outside}
+use Rattle.piece.specs.Place.{Placed, Lies}
+use Rattle.piece.specs.Tells.{Verdict, Tells}
+use Rattle.piece.proofs.Tells.{tells_code}
 use Rattle.seal.specs.Seal.{block_at}
-use Rattle.block.specs.Reading.{header_asked, run_asked, HeaderSays, RunSays}
-use Rattle.piece_block.specs.Reading.{piece_asked, PieceSays, PieceFound}
-use Rattle.block.specs.Reading.{HeaderRead}
-use Rattle.block.specs.Reading.{RunRead}
+use Rattle.block.specs.Layout.{header_block, run_numbers, run_block}
+use Rattle.block.specs.Reading.{HeaderRead, RunRead, header_asked, run_asked, HeaderSays, RunSays}
 use Rattle.piece_block.specs.declared.PieceRead.{PieceRead}
-use Rattle.grid.specs.Number.{Answer}
+use Rattle.piece_block.specs.Layout.{piece_numbers, piece_block}
+use Rattle.piece_block.specs.Reading.{piece_asked, PieceGood, PieceSays}
 use Rattle.grid.specs.declared.Taken.{Taken}
+use Rattle.grid.specs.declared.Taken.TheVariants.{Grid, OffGrid, NotNumber, Beyond}
+use Rattle.grid.specs.Number.{Answer}
 use Rattle.line.specs.Text.{lines}
-use Rattle.obj.specs.File.{obj_checks, ObjSays}
-use Rattle.obj.specs.File.{Outline}
+use Rattle.obj.specs.File.{obj_checks, Outline, ObjSays}
 use Rattle.obj.proofs.Bounds.{face_few}
-use Rattle.room.specs.Image.{room_checks}
-use Rattle.room.specs.Step.{StepSays, StepFinds, piece_read}
-use Rattle.room.specs.Verdicts.{VerdictsSay, verdicts_checks}
 use Rattle.room.specs.declared.Step.{Step}
-use Rattle.room.specs.declared.Found as room
-use Rattle.room.specs.declared.Found.TheVariants as found
-use Rattle.room.specs.declared.Counted.{Counted}
-use Rattle.room.specs.declared.Counted.TheVariants as counted
+use Rattle.room.specs.Image.{Counted, room_said, room_checks}
+use Rattle.room.specs.Step.{Found, StepSays, StepFinds}
+use Rattle.room.specs.Verdicts.{VerdictsSay, verdicts_checks}
 use Rattle.room.proofs.Images.{few_pieces}
-use Rattle.book.specs.Ask.{AskSays}
 use Rattle.book.specs.declared.Asked.{Asked}
 use Rattle.book.specs.declared.Asked.TheVariants as asked
-use Rattle.coding.specs.Coded.{value, checked_means, placed_means, coded_means, verdict_means, header_means, counted_means, asked_means, outline_means, out}
+use Rattle.book.specs.Ask.{AskSays}
+use Rattle.coding.specs.Coded.{value, checked_means, placed_means, verdict_means, header_means, counted_means, asked_means, outline_means, out}
 use Rattle.coding.specs.Told.{Within, Reads}
+use Rattle.coding.proofs.Readable.{read_back, read_beside}
+use Rattle.coding.proofs.Arise.{AllFit, fit_run, fit_piece, fit_place, fit_verdict, fit_ask, fit_header, fit_run_block, fit_piece_block}
+use Rattle.coding.proofs.Arise.{fit_header_asked, fit_run_asked, fit_piece_asked, fit_verdicts, fit_step, fit_obj, fit_short}
 use Rattle.baker.specs.Listed.{kept, listed, run_listed, piece_found, piece_listed, step_found, step_listed}
 use Rattle.baker.specs.Export.{taken_one, export_checks, Exported}
 use Rattle.baker.specs.Calls.{CheckRunGives, CheckPieceGives, PlaceGives, VerdictGives, WriteHeaderGives, WriteRunGives, WritePieceGives, ReadHeaderGives}
 use Rattle.baker.specs.Calls.{ReadRunGives, ReadPieceGives, RoomPieceGives, RoomVerdictsGives, AskGives, TakeGives, IntakeGives, ObjGives}
-use Rattle.coding.proofs.Readable.{read_back, read_beside}
 use Rattle.baker.proofs.Listed.{read_few}
-use Rattle.coding.proofs.Arise.{AllFit, fit_run, fit_piece, fit_place, fit_verdict, fit_ask, fit_header, fit_run_block, fit_piece_block}
-use Rattle.coding.proofs.Arise.{fit_header_asked, fit_run_asked, fit_piece_asked, fit_verdicts, fit_step, fit_obj, fit_short}
 use Rattle.baker.proofs.Arise.{fit_export}
 
 -- ---- every answer is within its bits
@@ -78,8 +69,9 @@ lies p l (Ok Inside) h = omega arith
 lies p l (Ok On) h = omega arith
 lies p l (Err x) h = (fit_place p l).fits (said x) h
 
-tells : (r : Run) (k : Piece) (x : piece.Coded) → TellsCode r k x → Within (coded_means x)
-tells r k (Ok c) h = omega (arith, h.most)
+tells : (r : Run) (k : Piece) (x : Verdict) → Tells r k x → Within (verdict_means x)
+tells r k (Ok None) h = omega arith
+tells r k (Ok (Some m)) h = let w = tells_code r k (Ok (Some m)) h in omega (arith, w.most)
 tells r k (Err x) h = (fit_verdict r k).fits (said x) h
 
 heads : (l : List ℕ) (x : HeaderRead) → HeaderSays l x → Within (header_means x)
@@ -88,15 +80,15 @@ heads l (Err x) h = (fit_header l).fits (said x) h
 
 counts : (r : Run) (image before after : List ℕ) (x : Counted) → VerdictsSay r image before after x → Within (counted_means x)
 unfolding verdicts_checks
-counts r image before after (counted.Count n) h =
+counts r image before after (Ok n) h =
     let p = passes_left (room_checks image) _ (passes_right (run_checks r) _ h.passes) in
     omega (arith, few_pieces image p, h.pieces)
-counts r image before after (counted.Refused x b) h = (fit_verdicts r image before).fits (said_in x b) h.0
+counts r image before after (Err x) h = (fit_verdicts r image before).fits (room_said x) h.0
 
-asks : (book after : List ℕ) (r : Run) (k : Piece) (x : Asked) → AskSays book after r k x → Within (asked_means x)
-asks book after r k (asked.Remembered c) h = omega (arith, h.hit.fits)
-asks book after r k (asked.Worked c) h = omega (arith, h.small)
-asks book after r k (asked.Refused x) h = (fit_ask book r k).fits (said x) h.0
+asks : (book after : List ℕ) (r : Run) (k : Piece) (x : Result Asked declared.Refusal) → AskSays book after r k x → Within (asked_means x)
+asks book after r k (Ok (asked.Remembered c)) h = omega (arith, h.hit.fits)
+asks book after r k (Ok (asked.Worked c)) h = omega (arith, h.small)
+asks book after r k (Err x) h = (fit_ask book r k).fits (said x) h.0
 
 short_file : (file : List ℕ) (k : List ℤ → Piece) (size : ℕ) → Passes (obj_checks file k size) → length file ≤ 65536
 unfolding obj_checks
@@ -119,22 +111,22 @@ runs : (l : List ℕ) (before : List ℤ) (x : RunRead) → RunSays l x → With
 runs l before (Ok r) h = lists 7 before 0 (run_numbers (run_of r)) (omega arith)
 runs l before (Err x) h = (fit_run_block l).fits (said x) h
 
-pieces : (l : List ℕ) (before : List ℤ) (r : PieceRead) → PieceSays l r → Within (piece_listed before r).says
-pieces l before r h = by_case r.found h
-  where
-    by_case : (x : Checked) → PieceFound l r x → Within (piece_found before r x).says
-    by_case (Ok tt) f =
-        let m = read_few l r h in let corners = take (2 * r.count) r.corners in
-        lists 133 before r.count (piece_numbers (piece_of r.slab corners)) (omega arith)
-    by_case (Err x) f = (fit_piece_block l).fits (said x) f.fault
+founds : (l : List ℕ) (before : List ℤ) (r : PieceRead) → PieceGood l r → Within (piece_found before r).says
+founds l before r f =
+    let m = read_few l r f in let corners = take (2 * r.count) r.corners in
+    lists 133 before r.count (piece_numbers (piece_of r.slab corners)) (omega arith)
+
+pieces : (l : List ℕ) (before : List ℤ) (x : Result PieceRead declared.Refusal) → PieceSays l x → Within (piece_listed before x).says
+pieces l before (Ok r) h = founds l before r h
+pieces l before (Err x) h = (fit_piece_block l).fits (said x) h
 
 steps : (image : List ℕ) (place : ℕ) (before : List ℤ) (s : Step) → StepSays image place s → Within (step_listed before s).says
 steps image place before s h = by_case s.found h
   where
-    by_case : (x : room.Found) → StepFinds image place s x → Within (step_found before s x).says
-    by_case found.Piece g = pieces (block_at image (suc place)) before (piece_read s) g.good
-    by_case found.End g = omega arith
-    by_case (found.Refused x b) g = fit_step image place (said_in x b) g.fault
+    by_case : (x : Found) → StepFinds image place s x → Within (step_found before x).says
+    by_case (Ok (Some p)) g = founds (block_at image (suc place)) before p g.good
+    by_case (Ok None) g = omega arith
+    by_case (Err x) g = fit_step image place (room_said x) g.fault
 
 takes : (x : Float) (g : ℤ) (f : Float) (t : Taken) → Answer x t → Within (taken_one g f t).says
 takes x g f (Grid k) h = omega arith
@@ -153,7 +145,7 @@ pub place_read : (p : Pt) (l : List ℤ) (c : ℕ) (h : PlaceGives p l c) → Re
 place_read p l c = read_back (Lies p l) placed_means (lies p l)
 
 pub verdict_read : (r : Run) (k : Piece) (c : ℕ) (h : VerdictGives r k c) → Reads c (verdict_means h.answer)
-verdict_read r k c = read_back (Tells r k) verdict_means (λ x h. tells r k (coded_of x) (tells_code r k x h))
+verdict_read r k c = read_back (Tells r k) verdict_means (tells r k)
 
 -- ---- blocks
 pub write_header_read : (n : ℕ) (before after : List ℕ) (c : ℕ) (h : WriteHeaderGives n before after c) → Reads c (checked_means h.answer)

@@ -1,5 +1,4 @@
 -- Exported numbers in and out: one number's answer, and a footprint as a list x, y, x, y .. Assumes nothing.
-use Rattle.std.specs.Prelude.{Ok, Err}
 use Rattle.grid.specs.declared.Taken.TheVariants.{Grid, OffGrid, NotNumber, Beyond}
 use Rattle.std.specs.Prelude.{◌≡◌, List, [], ◌∷◌, ℕ, ◌+◌, ◌*◌, ◌/◌, ◌%◌, ◌<◌, ℤ, length, get_or, Float}
 use Rattle.std.specs.Float.{nan}

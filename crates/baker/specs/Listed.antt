@@ -1,5 +1,5 @@
 -- What a call that reads into a lent list leaves there. Assumes nothing.
-use Rattle.std.specs.Prelude.{cond, List, ℕ, ◌*◌, leb, ℤ, length, take, Option, Some, None, Result, Ok, Err}
+use Rattle.std.specs.Prelude.{cond, List, ℕ, ◌*◌, leb, ℤ, length, take, Some, None, Result, Ok, Err}
 use Rattle.whole.specs.Front.{fronted}
 use Rattle.rules.specs.Refusal.{Refusal, refuse}
 use Rattle.refusal.specs.declared.Refusal as declared

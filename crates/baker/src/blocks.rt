@@ -4,20 +4,20 @@ ghost use Rattle.baker.specs.Calls.{WriteHeaderGives, ReadHeaderGives, WriteRunG
 
 use crate::given::{run_of, slab_of};
 use crate::list::{put_piece, put_run};
-use coding::{checked, header, refusal};
+use coding::Code;
 
 #[unsafe(no_mangle)]
 pub extern "C" fn baker_write_header(pieces: u32, block: &mut [u8]) -> u64
     ensures { WriteHeaderGives pieces block.old block.new result }
 {
-    checked(block::write_header(pieces, block))
+    block::write_header(pieces, block).code()
 }
 
 #[unsafe(no_mangle)]
 pub extern "C" fn baker_read_header(block: &[u8]) -> u64
     ensures { ReadHeaderGives block.now result }
 {
-    header(block::read_header(block))
+    block::read_header(block).code()
 }
 
 #[unsafe(no_mangle)]
@@ -34,7 +34,7 @@ pub extern "C" fn baker_write_run(
     ensures { WriteRunGives (run x y z vx vy vz ticks) block.old block.new result }
 {
     let run = run_of(x, y, z, vx, vy, vz, ticks);
-    checked(block::write_run(run, block))
+    block::write_run(run, block).code()
 }
 
 #[unsafe(no_mangle)]
@@ -42,8 +42,8 @@ pub extern "C" fn baker_read_run(block: &[u8], numbers: &mut [i32]) -> u64
     ensures { ReadRunGives block.now numbers.old numbers.new result }
 {
     match block::read_run(block) {
-        Err(x) => refusal(x),
         Ok(run) => put_run(run, numbers),
+        Err(x) => x.code(),
     }
 }
 
@@ -60,7 +60,7 @@ pub extern "C" fn baker_write_piece(
     ensures { WritePieceGives (piece bottom top vx vy vz corners.now) block.old block.new result }
 {
     let slab = slab_of(bottom, top, vx, vy, vz);
-    checked(piece_block::write_piece(slab, corners, block))
+    piece_block::write_piece(slab, corners, block).code()
 }
 
 #[unsafe(no_mangle)]
@@ -69,6 +69,6 @@ pub extern "C" fn baker_read_piece(block: &[u8], numbers: &mut [i32]) -> u64
 {
     match piece_block::read_piece(block) {
         Ok(piece) => put_piece(piece, numbers),
-        Err(x) => refusal(x),
+        Err(x) => x.code(),
     }
 }

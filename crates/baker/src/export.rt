@@ -3,7 +3,7 @@ ghost use Rattle.std.specs.Prelude.{◌*◌, ◌≤◌, length};
 ghost use Rattle.baker.specs.Export.{Exported, Paired};
 ghost use Rattle.baker.specs.Calls.{TakeGives, IntakeGives};
 
-use coding::checked;
+use coding::Code;
 use grid::{Taken, take};
 use intake::Corner;
 use refusal::Refusal;
@@ -62,5 +62,5 @@ fn export(numbers: &[f32], list: &mut [i32]) -> Result<(), Refusal>
 pub extern "C" fn baker_intake(numbers: &[f32], list: &mut [i32]) -> u64
     ensures { IntakeGives numbers.now list.old list.new result }
 {
-    checked(export(numbers, list))
+    export(numbers, list).code()
 }

@@ -3,7 +3,7 @@ ghost use Rattle.rules.specs.Reach.{piece};
 ghost use Rattle.baker.specs.Calls.{ObjGives};
 
 use crate::given::slab_of;
-use coding::outline;
+use coding::Code;
 
 #[unsafe(no_mangle)]
 pub extern "C" fn baker_obj(
@@ -18,5 +18,5 @@ pub extern "C" fn baker_obj(
     ensures { ObjGives file.now (piece bottom top vx vy vz) list.old list.new result }
 {
     let slab = slab_of(bottom, top, vx, vy, vz);
-    outline(obj::footprint(file, slab, list))
+    obj::footprint(file, slab, list).code()
 }

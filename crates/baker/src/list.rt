@@ -6,7 +6,7 @@ ghost use Rattle.piece_block.specs.Layout.{piece_numbers};
 ghost use Rattle.coding.specs.Coded.{out, coded};
 ghost use Rattle.baker.specs.Listed.{run_listed, piece_found};
 
-use coding::{checked, refusal};
+use coding::Code;
 use good::Run;
 use intake::put;
 use piece_block::{PieceRead, slab_numbers};
@@ -32,7 +32,7 @@ pub(crate) fn put_run(run: Run, list: &mut [i32]) -> u64
     ensures { out result list.new ≡ coded (run_listed list.old (Ok run)) }
 {
     let front = run_numbers(run);
-    checked(put(&front, list))
+    put(&front, list).code()
 }
 
 // A list must have room for the largest piece.
@@ -41,10 +41,10 @@ pub(crate) fn put_piece(piece: PieceRead, list: &mut [i32]) -> u64
     ensures { out result list.new ≡ coded (piece_found list.old piece) }
 {
     if list.len() < 133 {
-        return refusal(Refusal::Short);
+        return Refusal::Short.code();
     }
     let front = slab_numbers(piece.slab);
     put(&front, list).unwrap();
     put(&piece.corners[..2 * piece.count], &mut list[5..]).unwrap();
-    piece.count as u64
+    piece.count.code()
 }

@@ -4,7 +4,7 @@ ghost use Rattle.good.specs.Numbers.{pt};
 ghost use Rattle.baker.specs.Calls.{CheckRunGives, CheckPieceGives, PlaceGives, VerdictGives};
 
 use crate::given::{run_of, slab_of};
-use coding::{checked, placed, verdict};
+use coding::Code;
 
 #[unsafe(no_mangle)]
 pub extern "C" fn baker_check_run(
@@ -19,7 +19,7 @@ pub extern "C" fn baker_check_run(
     ensures { CheckRunGives (run x y z vx vy vz ticks) result }
 {
     let run = run_of(x, y, z, vx, vy, vz, ticks);
-    checked(good::check_run(run))
+    good::check_run(run).code()
 }
 
 #[unsafe(no_mangle)]
@@ -34,14 +34,14 @@ pub extern "C" fn baker_check_piece(
     ensures { CheckPieceGives (piece bottom top vx vy vz corners.now) result }
 {
     let slab = slab_of(bottom, top, vx, vy, vz);
-    checked(good::check_piece(slab, corners))
+    good::check_piece(slab, corners).code()
 }
 
 #[unsafe(no_mangle)]
 pub extern "C" fn baker_place(x: i32, y: i32, corners: &[i32]) -> u64
     ensures { PlaceGives (pt x y) corners.now result }
 {
-    placed(piece::place(x, y, corners))
+    piece::place(x, y, corners).code()
 }
 
 #[unsafe(no_mangle)]
@@ -64,5 +64,5 @@ pub extern "C" fn baker_verdict(
 {
     let run = run_of(x, y, z, vx, vy, vz, ticks);
     let slab = slab_of(bottom, top, ux, uy, uz);
-    verdict(piece::verdict(run, slab, corners))
+    piece::verdict(run, slab, corners).code()
 }

@@ -4,7 +4,7 @@ ghost use Rattle.baker.specs.Calls.{RoomPieceGives, RoomVerdictsGives, AskGives}
 
 use crate::given::{run_of, slab_of};
 use crate::list::put_piece;
-use coding::{asked, counted, refusal_in};
+use coding::Code;
 
 #[unsafe(no_mangle)]
 pub extern "C" fn baker_room_piece(image: &[u8], place: usize, numbers: &mut [i32]) -> u64
@@ -13,7 +13,7 @@ pub extern "C" fn baker_room_piece(image: &[u8], place: usize, numbers: &mut [i3
     match room::piece_at(image, place).found {
         Ok(Some(piece)) => put_piece(piece, numbers),
         Ok(None) => 0,
-        Err(x) => refusal_in(x.refusal, x.block),
+        Err(x) => x.code(),
     }
 }
 
@@ -32,7 +32,7 @@ pub extern "C" fn baker_room_verdicts(
     ensures { RoomVerdictsGives (run x y z vx vy vz ticks) image.now list.old list.new result }
 {
     let run = run_of(x, y, z, vx, vy, vz, ticks);
-    counted(room::verdicts(run, image, list))
+    room::verdicts(run, image, list).code()
 }
 
 #[unsafe(no_mangle)]
@@ -56,5 +56,5 @@ pub extern "C" fn baker_ask(
 {
     let run = run_of(x, y, z, vx, vy, vz, ticks);
     let slab = slab_of(bottom, top, ux, uy, uz);
-    asked(book::ask(book, run, slab, corners))
+    book::ask(book, run, slab, corners).code()
 }

@@ -1,16 +1,17 @@
 -- One number for each answer of the library, and what a call promises by it. Each public function of the crate answers what a definition here makes of what it is
 -- given: by that equality nothing else meets its contract. Assumes nothing.
-use Rattle.piece.specs.declared.spot.Spot.TheVariants.{On, Inside, Outside}
-use Rattle.std.specs.Prelude.{◌≡◌, ℕ, ◌+◌, ◌*◌, ◌%◌, ◌^◌, Result, Ok, Err}
+use Rattle.std.specs.Prelude.{◌≡◌, ℕ, ◌+◌, ◌*◌, ◌%◌, ◌^◌, Option, None, Some, Result, Ok, Err}
 use Rattle.rules.specs.Refusal.{Refusal}
+use Rattle.rules.specs.Verdict.{NONE}
 use Rattle.refusal.specs.declared.Refusal as declared
 use Rattle.refusal.specs.Said.{said, Checked}
 use Rattle.piece.specs.Place.{Placed}
 use Rattle.piece.specs.Tells.{Verdict}
-use Rattle.piece.specs.Tells as piece
-use Rattle.piece.specs.Tells.{coded_of}
+use Rattle.piece.specs.declared.spot.Spot.{Spot}
+use Rattle.piece.specs.declared.spot.Spot.TheVariants.{On, Inside, Outside}
 use Rattle.block.specs.Reading.{HeaderRead}
 use Rattle.room.specs.Image.{Counted, room_said}
+use Rattle.room.specs.declared.RoomRefusal.{RoomRefusal}
 use Rattle.obj.specs.File.{Outline}
 use Rattle.book.specs.declared.Asked.{Asked}
 use Rattle.book.specs.declared.Asked.TheVariants as asked
@@ -38,62 +39,82 @@ code_of (remembered n) = 2 ^ 32 + n
 code_of (refusal s) = refusal_code s
 
 -- ---- what each answer says, and its code
+-- an answer, or a refusal
+abbrev pub result_means : {A E : Type 0} → (A → Meaning) → (E → Meaning) → Result A E → Meaning
+result_means f g (Ok x) = f x
+result_means f g (Err x) = g x
+
+abbrev pub refusal_means : declared.Refusal → Meaning
+refusal_means x = refusal (said x)
+
+-- with its block
+abbrev pub room_refusal_means : RoomRefusal → Meaning
+room_refusal_means x = refusal (room_said x)
+
+-- where there is nothing more to say
+abbrev pub nothing_means : Unit {0} → Meaning
+nothing_means x = value 0
+
 abbrev pub checked_means : Checked → Meaning
-checked_means (Ok _) = value 0
-checked_means (Err x) = refusal (said x)
+checked_means = result_means nothing_means refusal_means
 
 abbrev pub checked_code : Checked → ℕ
 checked_code r = code_of (checked_means r)
 
+abbrev pub spot_means : Spot → Meaning
+spot_means Outside = value 0
+spot_means Inside = value 1
+spot_means On = value 2
+
 abbrev pub placed_means : Placed → Meaning
-placed_means (Ok Outside) = value 0
-placed_means (Ok Inside) = value 1
-placed_means (Ok On) = value 2
-placed_means (Err x) = refusal (said x)
+placed_means = result_means spot_means refusal_means
 
 abbrev pub placed_code : Placed → ℕ
 placed_code r = code_of (placed_means r)
 
 -- the code of a verdict
-abbrev pub coded_means : piece.Coded → Meaning
-coded_means (Ok c) = value c
-coded_means (Err x) = refusal (said x)
+abbrev pub mark_means : Option ℕ → Meaning
+mark_means None = value NONE
+mark_means (Some m) = value m
 
 abbrev pub verdict_means : Verdict → Meaning
-verdict_means r = coded_means (coded_of r)
+verdict_means = result_means mark_means refusal_means
 
 abbrev pub verdict_code : Verdict → ℕ
 verdict_code r = code_of (verdict_means r)
 
+-- a count
+abbrev pub count_means : ℕ → Meaning
+count_means n = value n
+
 -- the piece count
 abbrev pub header_means : HeaderRead → Meaning
-header_means (Ok n) = value n
-header_means (Err x) = refusal (said x)
+header_means = result_means count_means refusal_means
 
 abbrev pub header_code : HeaderRead → ℕ
 header_code r = code_of (header_means r)
 
 -- the piece count, or a refusal with its block
 abbrev pub counted_means : Counted → Meaning
-counted_means (Ok n) = value n
-counted_means (Err r) = refusal (room_said r)
+counted_means = result_means count_means room_refusal_means
 
 abbrev pub counted_code : Counted → ℕ
 counted_code r = code_of (counted_means r)
 
 -- the code of an entry
+abbrev pub entry_means : Asked → Meaning
+entry_means (asked.Remembered c) = remembered c
+entry_means (asked.Worked c) = value c
+
 abbrev pub asked_means : Result Asked declared.Refusal → Meaning
-asked_means (Ok (asked.Remembered c)) = remembered c
-asked_means (Ok (asked.Worked c)) = value c
-asked_means (Err x) = refusal (said x)
+asked_means = result_means entry_means refusal_means
 
 abbrev pub asked_code : Result Asked declared.Refusal → ℕ
 asked_code r = code_of (asked_means r)
 
 -- the corner count
 abbrev pub outline_means : Outline → Meaning
-outline_means (Ok n) = value n
-outline_means (Err x) = refusal (said x)
+outline_means = result_means count_means refusal_means
 
 abbrev pub outline_code : Outline → ℕ
 outline_code r = code_of (outline_means r)

@@ -2,13 +2,20 @@
 #![tactic(auto)]
 
 ghost use Rattle.std.specs.Prelude.{◌≡◌};
-ghost use Rattle.refusal.specs.Said.{said, said_in};
-ghost use Rattle.coding.specs.Coded.{refusal_code, checked_code, placed_code, verdict_code, header_code, counted_code, asked_code, outline_code};
+ghost use Rattle.coding.specs.Coded.{Meaning, refusal_code, code_of, nothing_means, count_means, spot_means, mark_means, entry_means, refusal_means, room_refusal_means, result_means};
 
 use book::Asked;
-use piece::{Spot, coded};
+use piece::{NONE, Spot};
 use refusal::{Refusal, Row};
 use room::RoomRefusal;
+
+// What an answer says to a caller, and that as one number.
+pub trait Code {
+    ghost means: { Self → Meaning };
+
+    fn code(self) -> u64
+        ensures { result ≡ code_of (means self) };
+}
 
 #[tactic(auto, unfolding(crate::specs::Coded::refusal_code))]
 fn packed(number: u64, block: u64, a: u64, b: u64) -> u64
@@ -19,83 +26,94 @@ fn packed(number: u64, block: u64, a: u64, b: u64) -> u64
     middle + a % 0x100_0000 * 0x1_0000 + b % 0x1_0000
 }
 
-// A refusal in a block of a room.
-pub fn refusal_in(x: Refusal, block: usize) -> u64
-    ensures { result ≡ refusal_code (said_in x block) }
-{
-    let row = Row::from(x);
-    packed(row.number as u64, block as u64, row.a as u64, row.b as u64)
-}
+impl Code for RoomRefusal {
+    ghost means = { room_refusal_means };
 
-// Elsewhere its block is 0.
-pub fn refusal(x: Refusal) -> u64
-    ensures { result ≡ refusal_code (said x) }
-{
-    refusal_in(x, 0)
-}
-
-pub fn checked(r: Result<(), Refusal>) -> u64
-    ensures { result ≡ checked_code r }
-{
-    match r {
-        Ok(()) => 0,
-        Err(x) => refusal(x),
+    fn code(self) -> u64 {
+        let row = Row::from(self.refusal);
+        packed(
+            row.number as u64,
+            self.block as u64,
+            row.a as u64,
+            row.b as u64,
+        )
     }
 }
 
-pub fn placed(r: Result<Spot, Refusal>) -> u64
-    ensures { result ≡ placed_code r }
-{
-    match r {
-        Ok(Spot::Outside) => 0,
-        Ok(Spot::Inside) => 1,
-        Ok(Spot::On) => 2,
-        Err(x) => refusal(x),
+// Outside a room the block is 0.
+impl Code for Refusal {
+    ghost means = { refusal_means };
+
+    fn code(self) -> u64 {
+        RoomRefusal::from(self).code()
     }
 }
 
-pub fn verdict(r: Result<Option<u32>, Refusal>) -> u64
-    ensures { result ≡ verdict_code r }
-{
-    match coded(r) {
-        Ok(c) => c as u64,
-        Err(x) => refusal(x),
+impl Code for () {
+    ghost means = { nothing_means };
+
+    fn code(self) -> u64 {
+        0
     }
 }
 
-pub fn header(r: Result<u32, Refusal>) -> u64
-    ensures { result ≡ header_code r }
-{
-    match r {
-        Ok(n) => n as u64,
-        Err(x) => refusal(x),
+// The piece count of a header.
+impl Code for u32 {
+    ghost means = { count_means };
+
+    fn code(self) -> u64 {
+        u64::from(self)
     }
 }
 
-pub fn counted(r: Result<usize, RoomRefusal>) -> u64
-    ensures { result ≡ counted_code r }
-{
-    match r {
-        Ok(n) => n as u64,
-        Err(x) => refusal_in(x.refusal, x.block),
+// The piece count of a room, or the corner count of a file.
+impl Code for usize {
+    ghost means = { count_means };
+
+    fn code(self) -> u64 {
+        self as u64
     }
 }
 
-pub fn asked(r: Result<Asked, Refusal>) -> u64
-    ensures { result ≡ asked_code r }
-{
-    match r {
-        Ok(Asked::Remembered(c)) => 0x1_0000_0000 + c as u64,
-        Ok(Asked::Worked(c)) => c as u64,
-        Err(x) => refusal(x),
+// A verdict.
+impl Code for Option<u32> {
+    ghost means = { mark_means };
+
+    fn code(self) -> u64 {
+        u64::from(self.unwrap_or(NONE))
     }
 }
 
-pub fn outline(r: Result<usize, Refusal>) -> u64
-    ensures { result ≡ outline_code r }
-{
-    match r {
-        Ok(n) => n as u64,
-        Err(x) => refusal(x),
+impl Code for Spot {
+    ghost means = { spot_means };
+
+    fn code(self) -> u64 {
+        match self {
+            Spot::Outside => 0,
+            Spot::Inside => 1,
+            Spot::On => 2,
+        }
+    }
+}
+
+impl Code for Asked {
+    ghost means = { entry_means };
+
+    fn code(self) -> u64 {
+        match self {
+            Asked::Remembered(c) => 0x1_0000_0000 + u64::from(c),
+            Asked::Worked(c) => u64::from(c),
+        }
+    }
+}
+
+impl<T: Code, E: Code> Code for Result<T, E> {
+    ghost means = { result_means T.means E.means };
+
+    fn code(self) -> u64 {
+        match self {
+            Ok(answer) => answer.code(),
+            Err(refusal) => refusal.code(),
+        }
     }
 }

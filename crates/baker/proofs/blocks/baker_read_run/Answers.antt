@@ -4,4 +4,4 @@ use Rattle.block.proofs.RunLaws.{good_ticks}
 use Rattle.baker.proofs.blocks.baker_read_run.Goals as goal
 
 pub put_run-requires : goal.put_run-requires
-put_run-requires c = good_ticks (run_of c.in-Found.run') c.in-Found.ensures.good
+put_run-requires c = good_ticks (run_of c.in-Ok.run') c.in-Ok.ensures.good

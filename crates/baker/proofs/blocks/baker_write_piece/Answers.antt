@@ -9,4 +9,4 @@ use Rattle.baker.proofs.blocks.baker_write_piece.Goals as goal
 pub returns : goal.returns
 returns c =
     coded_back (λ (k : Piece). WritePieceSays k c.args.block.now c.write_piece.new.block) checked_code c.write_piece.result
-    (c.slab_of-slab.ensures c.args.corners.now ∙ search rules) c.write_piece.ensures c.checked.ensures
+    (c.slab_of-slab.ensures c.args.corners.now ∙ search rules) c.write_piece.ensures c.code.ensures

@@ -11,4 +11,4 @@ use Rattle.baker.proofs.files.baker_obj.Goals as goal
 pub returns : goal.returns
 returns c =
     coded_back (λ (k : List ℤ → Piece). ObjSays c.args.file.now k c.args.list.now c.footprint.new.list) outline_code c.footprint.result
-    (fun_ext (λ l. c.slab_of-slab.ensures l ∙ search rules)) c.footprint.ensures c.outline.ensures
+    (fun_ext (λ l. c.slab_of-slab.ensures l ∙ search rules)) c.footprint.ensures c.code.ensures

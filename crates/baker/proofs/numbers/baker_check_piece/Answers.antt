@@ -10,4 +10,4 @@ use Rattle.baker.proofs.numbers.baker_check_piece.Goals as goal
 pub returns : goal.returns
 returns c =
     coded_back (λ (k : Piece). Finds (piece_checks k)) checked_code c.check_piece.result
-    (c.slab_of-slab.ensures c.args.corners.now ∙ search rules) c.check_piece.ensures c.checked.ensures
+    (c.slab_of-slab.ensures c.args.corners.now ∙ search rules) c.check_piece.ensures c.code.ensures

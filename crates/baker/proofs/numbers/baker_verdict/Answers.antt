@@ -8,4 +8,4 @@ use Rattle.baker.proofs.numbers.baker_verdict.Goals as goal
 pub returns : goal.returns
 returns c =
     coded_both Tells verdict_code c.verdict.result
-    (c.run_of-run.ensures ∙ search rules) (c.slab_of-slab.ensures c.args.corners.now ∙ search rules) c.verdict.ensures c.verdict-2.ensures
+    (c.run_of-run.ensures ∙ search rules) (c.slab_of-slab.ensures c.args.corners.now ∙ search rules) c.verdict.ensures c.code.ensures

@@ -8,4 +8,4 @@ use Rattle.baker.proofs.rooms.baker_ask.Goals as goal
 pub returns : goal.returns
 returns c =
     coded_both (AskSays c.args.book.now c.ask.new.book) asked_code c.ask.result
-    (c.run_of-run.ensures ∙ search rules) (c.slab_of-slab.ensures c.args.corners.now ∙ search rules) c.ask.ensures c.asked.ensures
+    (c.run_of-run.ensures ∙ search rules) (c.slab_of-slab.ensures c.args.corners.now ∙ search rules) c.ask.ensures c.code.ensures
