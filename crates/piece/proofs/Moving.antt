@@ -1,7 +1,7 @@
 -- Clipping keeps a span tame, and what tame numbers give fits. Assumes nothing.
 use mathlib.Core.Path.{◌≡◌, ◌∙◌}
 use mathlib.Core.Bool.{true, false}
-use Prim.Native.Nat.{ℕ, ◌≤◌}
+use Prim.Native.Nat.{ℕ, ◌≤◌, ◌<◌}
 use native.Mathlib.Omega.{arith}
 use lib.Dec.{T}
 use lib.IntN.{ℤ, pos, neg_ℤ, nat_abs, ◌-ℤ◌, ◌*ℤ◌, one, *ℤ-one}
@@ -15,9 +15,18 @@ use Rattle.whole.proofs.Flag.{by_flag, lt_true, le_true}
 use Rattle.whole.proofs.Range.{fits, abs_mul_le, abs_neg, Quot, quot}
 use Rattle.whole.specs.Fraction.{whole}
 use Rattle.whole.proofs.Fraction.{trans, floor_most}
+use Rattle.rules.specs.Verdict.{NONE}
 use Rattle.decide.proofs.Span.{Proper, begin, end, first_mark_lem}
 use Rattle.decide.specs.Span.{Span, raise, lower, none, clip, some, first}
-use Rattle.piece.specs.Moving.{Tame, Small, Bounds, Slope, Crossed, MarkSteps}
+use Rattle.piece.specs.declared.span.Span as declared
+use Rattle.piece.specs.Seen.{span_of}
+use Rattle.piece.specs.Sizes.{Sized, Tame, Bounds, Slope, MarkSteps}
+use Rattle.piece.proofs.Steps.{word, back}
+
+-- a moment before another that is not after 4,096 ticks
+pub sooner_end : (n d m e : ℤ) → pos 0 <ℤ d → pos 0 <ℤ e → m ≤ℤ (pos 4096 *ℤ e) → (n *ℤ e) <ℤ (m *ℤ d) → n ≤ℤ (pos 4096 *ℤ d)
+sooner_end n d m e h i j k =
+    lt_le _ _ (cancel_lt n (pos 4096 *ℤ d) e i (<ℤ-≤ℤ_trans k (rw (mul_swap_r (pos 4096) d e) (mul_mono m (pos 4096 *ℤ e) d j (lt_le _ _ h)))))
 
 module _ (N D : ℕ) (s : Span) (h : Tame N D s) where
   pub tame_raise : (n d : ℤ) → pos 0 <ℤ d → nat_abs n ≤ N → nat_abs d ≤ D → Tame N D (raise s n d)
@@ -42,8 +51,7 @@ module _ (N D : ℕ) (s : Span) (h : Tame N D s) where
       by_flag (Tame N D) (lt_z (n *ℤ s.high_d) (s.high_n *ℤ d)) _ _
       (λ e. record {
         begin = h.begin;
-        end = lt_le _ _ (cancel_lt n (pos 4096 *ℤ d) s.high_d h.high
-            (<ℤ-≤ℤ_trans (lt_true _ _ e) (rw (mul_swap_r (pos 4096) d s.high_d) (mul_mono s.high_n (pos 4096 *ℤ s.high_d) d h.end (lt_le _ _ l)))));
+        end = sooner_end n d s.high_n s.high_d l h.high h.end (lt_true _ _ e);
         low = h.low;
         high = l;
         low_n = h.low_n;
@@ -78,6 +86,22 @@ module _ (N D : ℕ) (s : Span) (h : Tame N D s) where
     high_d = omega (arith, h.high_d);
   }
 
+-- what holds of every span of the code
+abbrev pub Small : Span → Type 0
+Small = Tame 8589934592 67108864
+
+pub small_of : (s : declared.Span) → Small (span_of s)
+small_of s = record {
+  begin = s.begin;
+  end = s.end;
+  low = s.low.sized.some;
+  high = s.high.sized.some;
+  low_n = s.low.sized.num;
+  low_d = s.low.sized.den;
+  high_n = s.high.sized.num;
+  high_d = s.high.sized.den;
+}
+
 pub small_clip : (s : Span) (a b : ℤ) → Small s → Slope a b → Small (clip s a b)
 small_clip s a b h k = tame_clip _ _ s h a b (omega arith) (omega arith) k
 
@@ -85,17 +109,11 @@ small_clip s a b h k = tame_clip _ _ s h a b (omega arith) (omega arith) k
 tame_fits : (x y : ℤ) → nat_abs x ≤ 8589934592 → nat_abs y ≤ 67108864 → SFits w64 (x *ℤ y)
 tame_fits x y h k = fits w64 _ (omega (arith, abs_mul_le x y 8589934592 67108864 h k))
 
-pub crossed : (s : Span) (n d : ℤ) → Small s → Slope n d → Crossed s n d
-crossed s n d h k = record {
-  low = tame_fits s.low_n d h.low_n k.slope;
-  low' = tame_fits n s.low_d k.base h.low_d;
-  high = tame_fits n s.high_d k.base h.high_d;
-  high' = tame_fits s.high_n d h.high_n k.slope;
-}
+pub cross_fits : (n d m e : ℤ) → Sized n d → Sized m e → SFits w64 (word n *ℤ word e)
+cross_fits n d m e h k = rw (back n (omega (arith, h.num)), back e (omega (arith, k.den))) (tame_fits n e h.num k.den)
 
--- a tame number, read back
-pub back : (z : ℤ) → nat_abs z ≤ 8589934592 → to_z w64 (of_z w64 z) ≡ z
-back z h = to_z-of_z (fits w64 z (omega arith))
+pub cross_back : (n d m e : ℤ) → Sized n d → Sized m e → word (word n *ℤ word e) ≡ n *ℤ e
+cross_back n d m e h k = to_z-of_z (cross_fits n d m e h k) ∙ rw (back n (omega (arith, h.num)), back e (omega (arith, k.den)))
 
 zero_sub : (a : ℤ) → pos 0 -ℤ a ≡ neg_ℤ a
 zero_sub = all _ λ a a'. simp ring (omega arith)
@@ -104,7 +122,7 @@ zero_sub = all _ λ a a'. simp ring (omega arith)
 pub turned_fits : (a : ℤ) → nat_abs a ≤ 8589934592 → SFits w64 (pos 0 -ℤ a)
 turned_fits a h = rw (zero_sub a) (fits w64 _ (rw (abs_neg a) (omega arith)))
 
-pub turned : (a : ℤ) → nat_abs a ≤ 8589934592 → to_z w64 (of_z w64 (pos 0 -ℤ a)) ≡ neg_ℤ a
+pub turned : (a : ℤ) → nat_abs a ≤ 8589934592 → word (pos 0 -ℤ a) ≡ neg_ℤ a
 turned a h = to_z-of_z (turned_fits a h) ∙ zero_sub a
 
 -- ---- clip by the signs of its numbers
@@ -135,9 +153,6 @@ pub clip_all_read : (s : Span) (a b : ℤ) → SFits w64 a → SFits w64 b → l
 clip_all_read s a b i j e f g = clip_all s a b (rw (to_z-of_z j) at e) (rw (to_z-of_z j) at f) (rw (to_z-of_z i) at g)
 
 -- ---- the mark of a span's begin
-pub some_fits : (s : Span) → Small s → SFits w64 (s.low_n *ℤ s.high_d) × SFits w64 (s.high_n *ℤ s.low_d)
-some_fits s h = (tame_fits s.low_n s.high_d h.low_n h.high_d, tame_fits s.high_n s.low_d h.high_n h.low_d)
-
 module _ (s : Span) (h : Small s) (e : some s ≡ true) where
   from_0 : pos 0 ≤ℤ (pos 256 *ℤ s.low_n)
   from_0 = nn_mul (pos 256) s.low_n (record { le = tt }) h.begin
@@ -155,6 +170,9 @@ module _ (s : Span) (h : Small s) (e : some s ≡ true) where
   pub mark_most : first s ≤ 1048576
   unfolding one
   mark_most = floor_most (first s) 4096 (begin s proper) (first_mark_lem s proper) (trans (begin s proper) (end s proper) (whole (pos 4096)) (le_true _ _ e) (rw (*ℤ-one s.high_n) h.end))
+
+  pub mark_below : first s < NONE
+  mark_below = omega (arith, mark_most)
 
   pub mark_steps : MarkSteps s.low_n s.low_d
   mark_steps = record {

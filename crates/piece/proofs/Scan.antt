@@ -1,6 +1,6 @@
 -- One pass over the edges: the computed place. Assumes nothing.
 use mathlib.Core.Path.{◌≡◌, refl, ap, subst}
-use mathlib.Core.Bool.{Bool, true, false}
+use mathlib.Core.Bool.{Bool, true, false, not, beq, ◌&&◌}
 use mathlib.Core.Logic.{⊎_elim}
 use Prim.Native.Nat.{ℕ, zero, suc, ◌+◌, ◌≤◌, ◌<◌}
 use native.Mathlib.Omega.{arith}
@@ -13,6 +13,20 @@ use Rattle.rules.specs.Place.{on, inside, outside}
 use Rattle.decide.specs.Crossing.{xor, flag, parity}
 use Rattle.decide.proofs.Share.{times_one}
 use Rattle.decide.specs.Touch.{is_on, on_some, place, over}
+
+-- the line is asked in the box alone
+pub on_boxed : (box line : Bool) → (box && line) ≡ (line && box)
+on_boxed true true = refl
+on_boxed true false = refl
+on_boxed false true = refl
+on_boxed false false = refl
+
+-- as the code has it
+pub differ : (s t : Bool) → not (beq s t) ≡ xor s t
+differ true true = refl
+differ true false = refl
+differ false true = refl
+differ false false = refl
 
 module _ (r : Ring) (p : Pt) where
   -- n edges, i of them passed: the point is on none, and this is the parity
@@ -32,6 +46,10 @@ module _ (r : Ring) (p : Pt) where
     off = rw (add-one i, s.off) e;
     count = rw (add-one i) (ap (λ (t : Bool). xor t (flag r p i)) s.count);
   }
+
+  -- every edge passed
+  pub scan_done : (n i : ℕ) (odd : Bool) → n ≤ i → Scan n i odd → Scan n n odd
+  scan_done n i odd h s = let l = s.upto in let e : i ≡ n = omega arith in subst (λ (k : ℕ). Scan n k odd) e s
 
   -- on an edge is on the ring
   some_later : (m n : ℕ) → m ≤ n → on_some r p m ≡ true → on_some r p n ≡ true

@@ -2,8 +2,9 @@
 use Rattle.std.specs.Prelude.{Option, Ok, Err, Some, None}
 use mathlib.Core.Path.{◌≡◌, refl, sym, ap, ◌∙◌}
 use mathlib.Core.List.{List}
-use Prim.Native.Nat.{ℕ, ◌≤◌}
+use Prim.Native.Nat.{ℕ, ◌≤◌, min}
 use native.Mathlib.Omega.{arith}
+use borrow.Author.Tests.{ne_eqb}
 use Rattle.rules.specs.Reach.{Run, Piece}
 use Rattle.rules.specs.Refusal.{Check, Passes, Fault}
 use Rattle.rules.specs.Good.{run_checks, piece_checks}
@@ -16,7 +17,7 @@ use Rattle.rules.proofs.Verdict.{one_verdict, mark_small, mark_answers}
 use Rattle.refusal.specs.declared.Refusal.{Refusal}
 use Rattle.refusal.specs.Said.{said, Told}
 use Rattle.refusal.proofs.Unique.{told_one}
-use Rattle.piece.specs.Tells.{Verdict, Coded, answer_of, Tells, coded_of}
+use Rattle.piece.specs.Tells.{Verdict, Coded, answer_of, earlier, Marks, Tells, coded_of}
 
 -- an answer as the code has it, and back
 option_of : Answer → Option ℕ
@@ -45,6 +46,17 @@ module _ (r : Run) (k : Piece) where
   pub piece_refused : (x : Refusal) → Passes (run_checks r) → Fault (piece_checks k) (said x) → Fault (verdict_checks r k) (said x)
   unfolding verdict_checks
   piece_refused x = fault_right (run_checks r) (piece_checks k) (said x)
+
+-- ---- marks
+pub marks_answer : (o : Option ℕ) (n : ℕ) → Marks o n → answer_of o ≡ answer n
+marks_answer None n h = rw h
+marks_answer (Some m) n h = let l = h.1 in rw (h.0, ne_eqb m NONE (λ e. omega arith))
+
+pub marks_earlier : (x y : Option ℕ) (a b : ℕ) → Marks x a → Marks y b → Marks (earlier x y) (min a b)
+marks_earlier None None a b h k = rw (h, k)
+marks_earlier None (Some n) a b h k = let l = k.1 in (omega arith, l)
+marks_earlier (Some m) None a b h k = let l = h.1 in (omega arith, l)
+marks_earlier (Some m) (Some n) a b h k = let i = h.1 in (rw (h.0, k.0), omega arith)
 
 -- ---- codes
 -- a code that is told of a good run and a good piece

@@ -1,4 +1,4 @@
-pub mod Moving
-pub mod Touch
+pub mod Sizes
+pub mod Seen
 pub mod Tells
 pub mod Place

@@ -11,8 +11,10 @@ use good::{Run, Slab, check_piece, check_place, check_run};
 use refusal::Refusal;
 
 mod code;
+mod corners;
+mod mark;
 mod motion;
-mod number;
+mod point;
 mod span;
 mod spot;
 
@@ -37,10 +39,5 @@ pub fn verdict(run: Run, slab: Slab, corners: &[i32]) -> Result<Option<u32>, Ref
 {
     check_run(run)?;
     check_piece(slab, corners)?;
-    let mark = motion::code(run, slab, corners);
-    if mark == NONE {
-        Ok(None)
-    } else {
-        Ok(Some(mark))
-    }
+    Ok(mark::mark(run, slab, corners))
 }

@@ -1,161 +1,41 @@
 // When a point that runs meets a footprint that stands.
-// Definitions: the crate `decide`, Touch; specs/Touch.antt says which point, motion and edge plain numbers are.
-ghost use Rattle.std.specs.Prelude.{◌≡◌, [], min, ◌+ℤ◌, ◌-ℤ◌, ◌*ℤ◌};
+// Definitions: the crate `decide`, Touch; specs/Seen.antt says which point and which span the structs are.
+ghost use Rattle.std.specs.Prelude.{◌≡◌, [], ◌-ℤ◌, ◌+ℤ◌, ◌*ℤ◌};
 ghost use Rattle.rules.specs.Ring.{ring};
-ghost use Rattle.rules.specs.Good.{RunKnown, PieceKnown};
-ghost use Rattle.rules.specs.Verdict.{NONE};
-ghost use Rattle.decide.specs.Touch.{swing, across, on_line, within, on_edge, touch, touches, point_of, motion, band_span, start_point, over, place, contact, first_mark, code};
-ghost use Rattle.good.specs.Numbers.{run_of, piece_of};
-ghost use Rattle.piece.specs.Place.{where_of};
-ghost use Rattle.piece.specs.Moving.{span_of, Tame};
-ghost use Rattle.footprint.specs.Steps.{CrossSteps};
-ghost use Rattle.piece.specs.Touch.{start_of, speed_of, from_of, to_of, Ready, Flat, Standing, Level, AlongSteps};
+ghost use Rattle.good.specs.Numbers.{pt};
+ghost use Rattle.piece.specs.Sizes.{Close, Slow, Tame, AlongSteps};
+ghost use Rattle.piece.specs.Tells.{Marks, earlier};
 
-use crate::NONE;
-use crate::number::{at, cross, side};
-use crate::span::{Span, clip, first, some};
+use crate::corners::Corners;
+use crate::point::{Point, cross};
+use crate::span::Span;
 use crate::spot::{Spot, place_at};
-use footprint::{around, least, most, same_side, wide};
-use good::{Run, Slab};
+use footprint::same_side;
 
 // A point and its velocity against the piece's.
 #[derive(Clone, Copy)]
 pub(crate) struct Motion {
-    pub(crate) x: i64,
-    pub(crate) y: i64,
-    pub(crate) u: i64,
-    pub(crate) v: i64,
+    pub(crate) start: Point,
+    pub(crate) speed: Point,
+    ghost close: { Close (pt start.x start.y) },
+    ghost slow: { Slow (pt speed.x speed.y) },
 }
 
-// An edge from a to b.
+// An edge of a footprint.
 #[derive(Clone, Copy)]
 pub(crate) struct Edge {
-    pub(crate) ax: i64,
-    pub(crate) ay: i64,
-    pub(crate) bx: i64,
-    pub(crate) by: i64,
+    pub(crate) from: Point,
+    pub(crate) to: Point,
+    ghost close: { Close (pt from.x from.y) × Close (pt to.x to.y) },
 }
 
-// The side of a corner against the line of motion.
-fn across(m: Motion, x: i64, y: i64) -> i64
-    requires { CrossSteps m.u m.v (x -ℤ m.x) (y -ℤ m.y) }
-    ensures { result ≡ across (start_of m) (speed_of m) (record { x = x; y = y }) }
+fn earlier(a: Option<u32>, b: Option<u32>) -> Option<u32>
+    ensures { result ≡ earlier a b }
 {
-    cross(m.u, m.v, x - m.x, y - m.y)
-}
-
-// How the side of the point against an edge changes.
-fn swing(m: Motion, e: Edge) -> i64
-    requires { CrossSteps (e.bx -ℤ e.ax) (e.by -ℤ e.ay) m.u m.v }
-    ensures { result ≡ swing (from_of e) (to_of e) (speed_of m) }
-{
-    cross(e.bx - e.ax, e.by - e.ay, m.u, m.v)
-}
-
-// The moments of a span at which the point lies on the line of an edge.
-fn on_line(m: Motion, s: Span, e: Edge) -> Span
-    requires { Ready (start_of m) (speed_of m) (span_of s) (from_of e) (to_of e) }
-    ensures { span_of result ≡ on_line (start_of m) (speed_of m) (span_of s) (from_of e) (to_of e) }
-{
-    let a = side(e.ax, e.ay, e.bx, e.by, m.x, m.y);
-    let b = swing(m, e);
-    clip(clip(s, a, b), -a, -b)
-}
-
-// The moments at which a coordinate lies between two.
-fn within(p: i64, w: i64, s: Span, a: i64, b: i64) -> Span
-    requires { Flat p w (span_of s) a b }
-    ensures { span_of result ≡ within p w (span_of s) a b }
-{
-    clip(clip(s, p - least(a, b), w), most(a, b) - p, -w)
-}
-
-// The moments at which the point lies on an edge.
-fn on_edge(m: Motion, s: Span, e: Edge) -> Span
-    requires { Ready (start_of m) (speed_of m) (span_of s) (from_of e) (to_of e) }
-    ensures { span_of result ≡ on_edge (start_of m) (speed_of m) (span_of s) (from_of e) (to_of e) }
-{
-    let t = within(m.x, m.u, on_line(m, s, e), e.ax, e.bx);
-    within(m.y, m.v, t, e.ay, e.by)
-}
-
-// The first mark on an edge, whose ends' sides against the line of motion are c and d.
-fn touch(m: Motion, s: Span, e: Edge, c: i64, d: i64) -> u32
-    requires { Ready (start_of m) (speed_of m) (span_of s) (from_of e) (to_of e) × ((c ≡ across (start_of m) (speed_of m) (from_of e)) × (d ≡ across (start_of m) (speed_of m) (to_of e))) }
-    ensures { result ≡ touch (start_of m) (speed_of m) (span_of s) (from_of e) (to_of e) }
-{
-    if same_side(c, d) {
-        return NONE;
+    match (a, b) {
+        (Some(a), Some(b)) => Some(a.min(b)),
+        (a, b) => a.or(b),
     }
-    let t = on_edge(m, s, e);
-    if some(t) { first(t) } else { NONE }
-}
-
-fn earlier(a: u32, b: u32) -> u32
-    ensures { result ≡ min a b }
-{
-    if b < a { b } else { a }
-}
-
-// The first mark on any edge. A corner and its side are carried from one edge to the next.
-fn touches(l: &[i32], m: Motion, s: Span) -> u32
-    requires { Standing l.now (start_of m) (speed_of m) (span_of s) }
-    ensures { result ≡ touches (ring l.now) (start_of m) (speed_of m) (span_of s) (ring l.now).size }
-{
-    let n = l.len() / 2;
-    let mut best = NONE;
-    let mut ax = at(l, 0);
-    let mut ay = at(l, 1);
-    let mut c = across(m, ax, ay);
-    let mut i: usize = 0;
-    while i < n {
-        let j = around(n, i + 1);
-        let bx = at(l, 2 * j);
-        let by = at(l, 2 * j + 1);
-        let d = across(m, bx, by);
-        let e = Edge { ax, ay, bx, by };
-        best = earlier(best, touch(m, s, e, c, d));
-        ax = bx;
-        ay = by;
-        c = d;
-        i += 1;
-    }
-    best
-}
-
-// The difference of two plain numbers.
-fn gap(a: i32, b: i32) -> i64
-    ensures { result ≡ a -ℤ b }
-{
-    a as i64 - b as i64
-}
-
-// The point of a run, and its velocity against a piece's.
-fn motion_of(run: Run, slab: Slab) -> Motion
-    ensures { (start_of result ≡ point_of (run_of run)) × (speed_of result ≡ motion (run_of run) (piece_of slab [])) }
-{
-    Motion {
-        x: wide(run.x),
-        y: wide(run.y),
-        u: gap(run.vx, slab.vx),
-        v: gap(run.vy, slab.vy),
-    }
-}
-
-// The moments of a run within a piece's band.
-fn band_span(run: Run, slab: Slab) -> Span
-    requires { Level (run_of run) (piece_of slab []) }
-    ensures { span_of result ≡ band_span (run_of run) (piece_of slab []) }
-{
-    let w = gap(run.vz, slab.vz);
-    let s = Span {
-        low_n: 0,
-        low_d: 1,
-        high_n: run.ticks as i64,
-        high_d: 1,
-    };
-    let t = clip(s, gap(run.z, slab.bottom), w);
-    clip(t, gap(slab.top, run.z), -w)
 }
 
 // A coordinate at the moment n/d, over d.
@@ -166,46 +46,109 @@ fn along(d: i64, p: i64, n: i64, w: i64) -> i64
     d * p + n * w
 }
 
-// Where the point is as a span begins, all over that moment's denominator.
-fn begins(l: &[i32], m: Motion, s: Span) -> Spot
-    requires { Standing l.now (start_of m) (speed_of m) (span_of s) × Tame 32768 510 (span_of s) }
-    ensures { where_of result ≡ place (over (span_of s).low_d (ring l.now)) (start_point (start_of m) (speed_of m) (span_of s)) }
-{
-    let px = along(s.low_d, m.x, s.low_n, m.u);
-    let py = along(s.low_d, m.y, s.low_n, m.v);
-    place_at(l, l.len() / 2, px, py, s.low_d)
-}
+impl Motion {
+    ghost use Rattle.decide.specs.Touch.{swing, across, on_line, on_edge, touch, touches, start_point, over, place, first_mark};
+    ghost use Rattle.piece.specs.Place.{where_of};
+    ghost use Rattle.piece.specs.Seen.{pt_of, span_of};
 
-// On or inside is a contact.
-fn is_contact(spot: Spot) -> bool
-    ensures { result ≡ contact (where_of spot) }
-{
-    match spot {
-        Spot::On => true,
-        Spot::Inside => true,
-        Spot::Outside => false,
+    // The side of a corner against the line of motion.
+    fn across(self, v: Point) -> i64
+        requires { Close (pt_of v) }
+        ensures { result ≡ across (pt_of self.start) (pt_of self.speed) (pt_of v) }
+    {
+        cross(
+            self.speed.x,
+            self.speed.y,
+            v.x - self.start.x,
+            v.y - self.start.y,
+        )
     }
-}
 
-// The first mark of a point that runs against a standing footprint within a span.
-fn first_mark(l: &[i32], m: Motion, s: Span) -> u32
-    requires { Standing l.now (start_of m) (speed_of m) (span_of s) × Tame 32768 510 (span_of s) }
-    ensures { result ≡ first_mark (ring l.now) (start_of m) (speed_of m) (span_of s) }
-{
-    if !some(s) {
-        return NONE;
+    // How the side of the point against an edge changes.
+    fn swing(self, e: Edge) -> i64
+        ensures { result ≡ swing (pt_of e.from) (pt_of e.to) (pt_of self.speed) }
+    {
+        cross(
+            e.to.x - e.from.x,
+            e.to.y - e.from.y,
+            self.speed.x,
+            self.speed.y,
+        )
     }
-    if is_contact(begins(l, m, s)) {
-        first(s)
-    } else {
-        touches(l, m, s)
-    }
-}
 
-// A verdict, coded: the mark, or NONE.
-pub(crate) fn code(run: Run, slab: Slab, l: &[i32]) -> u32
-    requires { RunKnown (run_of run) × PieceKnown (piece_of slab l.now) }
-    ensures { result ≡ code (run_of run) (piece_of slab l.now) }
-{
-    first_mark(l, motion_of(run, slab), band_span(run, slab))
+    // The moments of a span at which the point lies on the line of an edge.
+    fn on_line(self, s: Span, e: Edge) -> Span
+        ensures { span_of result ≡ on_line (pt_of self.start) (pt_of self.speed) (span_of s) (pt_of e.from) (pt_of e.to) }
+    {
+        let a = self.start.side(e.from, e.to);
+        let b = self.swing(e);
+        s.clip(a, b).clip(-a, -b)
+    }
+
+    // The moments at which the point lies on an edge.
+    fn on_edge(self, s: Span, e: Edge) -> Span
+        ensures { span_of result ≡ on_edge (pt_of self.start) (pt_of self.speed) (span_of s) (pt_of e.from) (pt_of e.to) }
+    {
+        let t = self
+            .on_line(s, e)
+            .within(self.start.x, self.speed.x, e.from.x, e.to.x);
+        t.within(self.start.y, self.speed.y, e.from.y, e.to.y)
+    }
+
+    // The first mark on an edge, whose ends' sides against the line of motion are c and d.
+    fn touch(self, s: Span, e: Edge, c: i64, d: i64) -> Option<u32>
+        requires { (c ≡ across (pt_of self.start) (pt_of self.speed) (pt_of e.from)) × (d ≡ across (pt_of self.start) (pt_of self.speed) (pt_of e.to)) }
+        ensures { Marks result (touch (pt_of self.start) (pt_of self.speed) (span_of s) (pt_of e.from) (pt_of e.to)) }
+    {
+        if same_side(c, d) {
+            return None;
+        }
+        let t = self.on_edge(s, e);
+        if t.some() { Some(t.first()) } else { None }
+    }
+
+    // The first mark on any edge. A corner and its side are carried from one edge to the next.
+    fn touches(self, s: Span, l: Corners) -> Option<u32>
+        ensures { Marks result (touches (ring l.entry.list.now) (pt_of self.start) (pt_of self.speed) (span_of s) (ring l.entry.list.now).size) }
+    {
+        let mut best = None;
+        let mut a = l.at(0);
+        let mut c = self.across(a);
+        for i in 0..l.count() {
+            let b = l.after(i);
+            let d = self.across(b);
+            let e = Edge { from: a, to: b };
+            best = earlier(best, self.touch(s, e, c, d));
+            a = b;
+            c = d;
+        }
+        best
+    }
+
+    // Where the point is as a span begins, all over that moment's denominator.
+    fn begins(self, s: Span, l: Corners) -> Spot
+        requires { Tame 32768 510 (span_of s) }
+        ensures { where_of result ≡ place (over s.low.d (ring l.entry.list.now)) (start_point (pt_of self.start) (pt_of self.speed) (span_of s)) }
+    {
+        let p = Point {
+            x: along(s.low.d, self.start.x, s.low.n, self.speed.x),
+            y: along(s.low.d, self.start.y, s.low.n, self.speed.y),
+        };
+        place_at(l, p, s.low.d)
+    }
+
+    // The first mark of the point against a standing footprint within a span.
+    pub(crate) fn first_mark(self, s: Span, l: Corners) -> Option<u32>
+        requires { Tame 32768 510 (span_of s) }
+        ensures { Marks result (first_mark (ring l.entry.list.now) (pt_of self.start) (pt_of self.speed) (span_of s)) }
+    {
+        if !s.some() {
+            return None;
+        }
+        if self.begins(s, l).is_contact() {
+            Some(s.first())
+        } else {
+            self.touches(s, l)
+        }
+    }
 }

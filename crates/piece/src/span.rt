@@ -1,113 +1,123 @@
 // Spans of moments between two fractions, and clipping them by linear inequalities.
-// Definitions: the crate `decide`, Span; specs/Moving.antt says which span four numbers are, and of which size.
-ghost use Rattle.std.specs.Prelude.{◌≡◌, true, pos, ◌*ℤ◌};
+// Definitions: the crate `decide`, Span; specs/Sizes.antt says of which size they are.
+ghost use Rattle.std.specs.Prelude.{◌≡◌, true, pos, ◌*ℤ◌, ◌≤ℤ◌};
 ghost use Rattle.std.specs.Int.Signed.{quot_z, lt_z};
-ghost use Rattle.std.specs.Int.{w64};
-ghost use Rattle.std.proofs.Common.{SFits};
-ghost use Rattle.decide.specs.Span.{raise, lower, none, clip, some, first};
-ghost use Rattle.piece.specs.Moving.{span_of, Crossed, Small, Slope, MarkSteps};
+ghost use Rattle.piece.specs.Sizes.{Sized, Slope, MarkSteps, Flat};
 
-// From low_n/low_d to high_n/high_d, both counted.
+use footprint::{least, most};
+
+// The moment n/d.
+#[derive(Clone, Copy)]
+pub(crate) struct Moment {
+    pub(crate) n: i64,
+    pub(crate) d: i64,
+    ghost sized: { Sized n d },
+}
+
+impl Moment {
+    fn is_before(self, t: Moment) -> bool
+        ensures { result ≡ lt_z (self.n *ℤ t.d) (t.n *ℤ self.d) }
+    {
+        self.n * t.d < t.n * self.d
+    }
+
+    // The mark of the moment: 256 parts to a tick, rounded down.
+    fn mark(self) -> i64
+        requires { MarkSteps self.n self.d }
+        ensures { result ≡ quot_z (pos 256 *ℤ self.n) self.d }
+    {
+        256 * self.n / self.d
+    }
+}
+
+// From low to high, both counted, within the longest run.
 #[derive(Clone, Copy)]
 pub(crate) struct Span {
-    pub(crate) low_n: i64,
-    pub(crate) low_d: i64,
-    pub(crate) high_n: i64,
-    pub(crate) high_d: i64,
+    pub(crate) low: Moment,
+    pub(crate) high: Moment,
+    ghost begin: { pos 0 ≤ℤ low.n },
+    ghost end: { high.n ≤ℤ (pos 4096 *ℤ high.d) },
 }
 
-// Whether the moment n/d is before m/e.
-fn sooner(n: i64, d: i64, m: i64, e: i64) -> bool
-    requires { SFits w64 (n *ℤ e) × SFits w64 (m *ℤ d) }
-    ensures { result ≡ lt_z (n *ℤ e) (m *ℤ d) }
-{
-    n * e < m * d
-}
+impl Span {
+    ghost use Rattle.decide.specs.Span.{raise, lower, none, clip, some, first};
+    ghost use Rattle.decide.specs.Touch.{within};
+    ghost use Rattle.piece.specs.Seen.{span_of};
 
-// Not before n/d.
-fn raise(s: Span, n: i64, d: i64) -> Span
-    requires { Crossed (span_of s) n d }
-    ensures { span_of result ≡ raise (span_of s) n d }
-{
-    if sooner(s.low_n, s.low_d, n, d) {
-        Span {
-            low_n: n,
-            low_d: d,
-            high_n: s.high_n,
-            high_d: s.high_d,
+    // Not before t.
+    fn raise(self, t: Moment) -> Span
+        ensures { span_of result ≡ raise (span_of self) t.n t.d }
+    {
+        if self.low.is_before(t) {
+            return Span {
+                low: t,
+                high: self.high,
+            };
         }
-    } else {
-        s
+        self
     }
-}
 
-// Not after n/d.
-fn lower(s: Span, n: i64, d: i64) -> Span
-    requires { Crossed (span_of s) n d }
-    ensures { span_of result ≡ lower (span_of s) n d }
-{
-    if sooner(n, d, s.high_n, s.high_d) {
-        Span {
-            low_n: s.low_n,
-            low_d: s.low_d,
-            high_n: n,
-            high_d: d,
+    // Not after t.
+    fn lower(self, t: Moment) -> Span
+        ensures { span_of result ≡ lower (span_of self) t.n t.d }
+    {
+        if t.is_before(self.high) {
+            return Span {
+                low: self.low,
+                high: t,
+            };
         }
-    } else {
-        s
+        self
     }
-}
 
-// No moment at all.
-fn none(s: Span) -> Span
-    ensures { span_of result ≡ none (span_of s) }
-{
-    Span {
-        low_n: s.low_n,
-        low_d: s.low_d,
-        high_n: -1,
-        high_d: 1,
+    // No moment at all.
+    fn none(self) -> Span
+        ensures { span_of result ≡ none (span_of self) }
+    {
+        Span {
+            low: self.low,
+            high: Moment { n: -1, d: 1 },
+        }
     }
-}
 
-// The moments t with 0 ≤ a + b t. A divisor's sign is turned before it bounds.
-#[tactic(auto, using(crate::proofs::Moving::clip_none_read, crate::proofs::Moving::clip_all_read))]
-pub(crate) fn clip(s: Span, a: i64, b: i64) -> Span
-    requires { Small (span_of s) × Slope a b }
-    ensures { span_of result ≡ clip (span_of s) a b }
-{
-    if 0 < b {
-        return raise(s, -a, b);
+    // The moments t with 0 ≤ a + b t. A divisor's sign is turned before it bounds.
+    #[tactic(auto, using(crate::proofs::Moving::clip_none_read, crate::proofs::Moving::clip_all_read))]
+    pub(crate) fn clip(self, a: i64, b: i64) -> Span
+        requires { Slope a b }
+        ensures { span_of result ≡ clip (span_of self) a b }
+    {
+        if 0 < b {
+            return self.raise(Moment { n: -a, d: b });
+        }
+        if b < 0 {
+            return self.lower(Moment { n: a, d: -b });
+        }
+        if a < 0 {
+            return self.none();
+        }
+        self
     }
-    if b < 0 {
-        return lower(s, a, -b);
+
+    // The moments at which p, moving at w, lies between a and b.
+    pub(crate) fn within(self, p: i64, w: i64, a: i64, b: i64) -> Span
+        requires { Flat p w a b }
+        ensures { span_of result ≡ within p w (span_of self) a b }
+    {
+        self.clip(p - least(a, b), w).clip(most(a, b) - p, -w)
     }
-    if a < 0 {
-        return none(s);
+
+    // Whether there is a moment.
+    pub(crate) fn some(self) -> bool
+        ensures { result ≡ some (span_of self) }
+    {
+        self.low.n * self.high.d <= self.high.n * self.low.d
     }
-    s
-}
 
-// Whether there is a moment.
-pub(crate) fn some(s: Span) -> bool
-    requires { Small (span_of s) }
-    ensures { result ≡ some (span_of s) }
-{
-    s.low_n * s.high_d <= s.high_n * s.low_d
-}
-
-// The mark of the moment n/d: 256 parts to a tick, rounded down.
-fn mark(n: i64, d: i64) -> i64
-    requires { MarkSteps n d }
-    ensures { result ≡ quot_z (pos 256 *ℤ n) d }
-{
-    256 * n / d
-}
-
-// The mark of the first moment.
-pub(crate) fn first(s: Span) -> u32
-    requires { Small (span_of s) × (some (span_of s) ≡ true) }
-    ensures { result ≡ first (span_of s) }
-{
-    mark(s.low_n, s.low_d) as u32
+    // The mark of the first moment.
+    pub(crate) fn first(self) -> u32
+        requires { some (span_of self) ≡ true }
+        ensures { result ≡ first (span_of self) }
+    {
+        self.low.mark() as u32
+    }
 }

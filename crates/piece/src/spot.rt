@@ -1,19 +1,17 @@
 // Where a point lies against a footprint.
-ghost use Rattle.std.specs.Prelude.{◌≡◌, ℕ, ◌≤◌, ◌<◌, nat_abs, ◌*ℤ◌};
-ghost use Rattle.std.specs.Int.{w64};
-ghost use Rattle.std.proofs.Common.{SFits};
+ghost use Rattle.std.specs.Prelude.{◌≡◌, ◌&&◌, ◌≤◌, nat_abs};
 ghost use Rattle.rules.specs.Ring.{ring};
 ghost use Rattle.rules.specs.Refusal.{Passes};
 ghost use Rattle.rules.specs.Place.{Place, place_checks};
-ghost use Rattle.decide.specs.Crossing.{xor, crosses};
-ghost use Rattle.decide.specs.Touch.{is_on, place, over};
-ghost use Rattle.footprint.specs.Steps.{SideSteps};
-ghost use Rattle.footprint.specs.Shape.{HoldsRing, Corner};
+ghost use Rattle.decide.specs.Crossing.{crosses};
+ghost use Rattle.decide.specs.Touch.{least, most, ranged, is_on, place, over, contact};
 ghost use Rattle.good.specs.Numbers.{pt};
-ghost use Rattle.piece.specs.Place.{pt_of, Near, where_of};
+ghost use Rattle.piece.specs.Place.{where_of};
+ghost use Rattle.piece.specs.Seen.{pt_of};
 
-use crate::number::{at, side};
-use footprint::{around, least, less, most, ranged};
+use crate::corners::Corners;
+use crate::point::Point;
+use footprint::{least, less, most, ranged, wide};
 
 // Where a point lies.
 #[derive(Clone, Copy, PartialEq, Eq)]
@@ -23,91 +21,66 @@ pub enum Spot {
     Outside,
 }
 
-#[derive(Clone, Copy)]
-struct Point {
-    x: i64,
-    y: i64,
+impl Spot {
+    // On or inside is a contact.
+    pub(crate) fn is_contact(self) -> bool
+        ensures { result ≡ contact (where_of self) }
+    {
+        matches!(self, Spot::On | Spot::Inside)
+    }
+}
+
+// Whether p lies in the box of the edge a b.
+fn in_box(a: Point, b: Point, p: Point) -> bool
+    ensures { result ≡ (ranged (least a.x b.x) p.x (most a.x b.x) && ranged (least a.y b.y) p.y (most a.y b.y)) }
+{
+    ranged(least(a.x, b.x), p.x, most(a.x, b.x)) && ranged(least(a.y, b.y), p.y, most(a.y, b.y))
 }
 
 // Whether p lies on the edge a b: its box is looked at before any product.
-fn is_on(ax: i64, ay: i64, bx: i64, by: i64, px: i64, py: i64) -> bool
-    requires { SideSteps ax ay bx by px py }
-    ensures { result ≡ is_on (pt px py) (pt ax ay) (pt bx by) }
+fn is_on(a: Point, b: Point, p: Point) -> bool
+    ensures { result ≡ is_on (pt_of p) (pt_of a) (pt_of b) }
 {
-    if !ranged(least(ax, bx), px, most(ax, bx)) {
-        return false;
-    }
-    if !ranged(least(ay, by), py, most(ay, by)) {
-        return false;
-    }
-    ranged(0, side(ax, ay, bx, by, px, py), 0)
+    in_box(a, b, p) && ranged(0, p.side(a, b), 0)
 }
 
 // Whether the edge a b is counted for p: a product is needed only where exactly one end is not past p.
-fn is_counted(ax: i64, ay: i64, bx: i64, by: i64, px: i64, py: i64) -> bool
-    requires { SideSteps ax ay bx by px py }
-    ensures { result ≡ crosses (pt ax ay) (pt bx by) (pt px py) }
+fn is_counted(a: Point, b: Point, p: Point) -> bool
+    ensures { result ≡ crosses (pt_of a) (pt_of b) (pt_of p) }
 {
-    if less(px, ax) {
-        if less(px, bx) {
-            return false;
-        }
-        return less(0, side(ax, ay, bx, by, px, py));
-    }
-    if less(px, bx) {
-        return less(side(ax, ay, bx, by, px, py), 0);
-    }
-    false
-}
-
-fn differ(s: bool, t: bool) -> bool
-    ensures { result ≡ xor s t }
-{
-    if s { !t } else { t }
-}
-
-fn scaled(d: i64, z: i64) -> i64
-    requires { SFits w64 (d *ℤ z) }
-    ensures { result ≡ d *ℤ z }
-{
-    d * z
-}
-
-// Corner i, over d.
-fn corner_at(l: &[i32], i: usize, d: i64) -> Point
-    requires { (nat_abs d ≤ 510) × Corner l.now i }
-    ensures { pt_of result ≡ (over d (ring l.now)).at i }
-{
-    Point {
-        x: scaled(d, at(l, 2 * i)),
-        y: scaled(d, at(l, 2 * i + 1)),
+    match (less(p.x, a.x), less(p.x, b.x)) {
+        (true, false) => less(0, p.side(a, b)),
+        (false, true) => less(p.side(a, b), 0),
+        _ => false,
     }
 }
 
-// The place of the point (px, py) over d, in one pass over the edges. A corner is carried from one edge to the next.
-pub(crate) fn place_at(l: &[i32], n: usize, px: i64, py: i64, d: i64) -> Spot
-    requires { Near d px py × (HoldsRing l.now n × ((j : ℕ) → j < n → Corner l.now j)) }
-    ensures { where_of result ≡ place (over d (ring l.now)) (pt px py) }
+// The place of the point p over d, in one pass over the edges. A corner is carried from one edge to the next.
+pub(crate) fn place_at(l: Corners, p: Point, d: i64) -> Spot
+    requires { nat_abs d ≤ 510 }
+    ensures { where_of result ≡ place (over d (ring l.entry.list.now)) (pt_of p) }
 {
     let mut odd = false;
-    let mut a = corner_at(l, 0, d);
-    let mut i = 0;
-    while i < n {
-        let b = corner_at(l, around(n, i + 1), d);
-        if is_on(a.x, a.y, b.x, b.y, px, py) {
+    let mut a = l.at(0).times(d);
+    for i in 0..l.count() {
+        let b = l.after(i).times(d);
+        if is_on(a, b, p) {
             return Spot::On;
         }
-        odd = differ(odd, is_counted(a.x, a.y, b.x, b.y, px, py));
+        odd ^= is_counted(a, b, p);
         a = b;
-        i += 1;
     }
     if odd { Spot::Inside } else { Spot::Outside }
 }
 
 // A point of the grid against a good footprint.
-pub(crate) fn grid_spot(x: i32, y: i32, l: &[i32]) -> Spot
-    requires { Passes (place_checks (pt x y) l.now) }
-    ensures { Place (ring l.now) (pt x y) (where_of result) }
+pub(crate) fn grid_spot(x: i32, y: i32, corners: &[i32]) -> Spot
+    requires { Passes (place_checks (pt x y) corners.now) }
+    ensures { Place (ring corners.now) (pt x y) (where_of result) }
 {
-    place_at(l, l.len() / 2, x as i64, y as i64, 1)
+    let p = Point {
+        x: wide(x),
+        y: wide(y),
+    };
+    place_at(Corners::new(corners), p, 1)
 }

@@ -1,15 +1,14 @@
 -- `spot::place_at` computes the place: no edge passed has the point on it, `odd` is the parity of those counted, and corner i is carried. Assumes nothing.
-use Rattle.std.proofs.Common.{◌≡◌, ◌-◌, ◌<◌}
+use Rattle.std.proofs.Common.{◌≡◌, ◌<◌}
 use Rattle.rules.specs.Ring.{ring}
 use Rattle.decide.specs.Touch.{over}
-use Rattle.good.specs.Numbers.{pt}
-use Rattle.piece.specs.Place.{pt_of}
+use Rattle.piece.specs.Seen.{pt_of}
 use Rattle.piece.proofs.Scan.{Scan}
 use Rattle.piece.proofs.spot.place_at.Given as goal
 
 -- i edges passed, and corner i carried
 abbrev pub invariant-loop-i : goal.invariant-loop-i
-invariant-loop-i l = record { scan : Scan (over l.d (ring l.l)) (pt l.px l.py) l.n l.i l.odd; here : l.i < l.n → pt_of l.a ≡ (over l.d (ring l.l)).at l.i }
-
-abbrev pub decreases-loop-i : goal.decreases-loop-i
-decreases-loop-i l = l.n - l.i
+invariant-loop-i l = record {
+  scan : Scan (over l.d (ring l.l.list.now)) (pt_of l.p) (ring l.l.list.now).size l.i l.odd;
+  here : l.i < (ring l.l.list.now).size → pt_of l.a ≡ (over l.d (ring l.l.list.now)).at l.i;
+}
