@@ -1,15 +1,16 @@
 -- Laws of the pass over a room: a code for each piece, and the codes in the lent list. Assumes nothing.
 use Rattle.std.specs.Prelude.{Ok, Err, Some, None}
-use mathlib.Core.Path.{refl}
+use mathlib.Core.Path.{◌≡◌, refl, sym, ap, ◌∙◌}
 use mathlib.Core.Logic.{inl}
 use mathlib.Core.List.{List, [], ◌∷◌, ◌++◌}
 use Prim.Native.Nat.{ℕ, suc, ◌+◌, ◌≤◌, ◌<◌}
 use native.Mathlib.Omega.{arith}
 use native.Mathlib.Numerals.{add-one}
 use borrow.Author.Count.{below_more}
-use lib.ListN.{length, get_or, set}
-use lib.Seq.{get_or-set_same, get_or-set_other}
-use Rattle.whole.specs.Front.{Front}
+use lib.ListN.{length, get_or, set, take, drop}
+use lib.Seq.{length-take-le, get_or-take, get_or-set_same, get_or-set_other}
+use Rattle.whole.specs.Front.{fronted}
+use Rattle.whole.proofs.Front.{front_made}
 use Rattle.rules.specs.Reach.{Run}
 use Rattle.rules.specs.Refusal.{refuse, Check, Passes, Fault, demand}
 use Rattle.rules.specs.Good.{run_checks, piece_checks}
@@ -31,7 +32,7 @@ use Rattle.room.specs.Image.{count, head_checks, Has, FirstRefused, pieces_check
 use Rattle.room.specs.declared.RoomRefusal.{RoomRefusal}
 use Rattle.room.specs.Verdicts.{verdicts_checks, CodeOf, Filled, VerdictsSay}
 use Rattle.room.specs.Codes.{CodeFound, CodesTo, AllCoded}
-use Rattle.room.proofs.Images.{few_pieces, has_long}
+use Rattle.room.proofs.Images.{has_long}
 
 -- ---- the code of a piece
 module _ (r : Run) (image : List ℕ) (i : ℕ) where
@@ -73,17 +74,14 @@ module _ (r : Run) (image : List ℕ) where
   codes_pass codes p h = passes_append (head_checks image) (pieces_check piece_block_checks image ∷ []) p (λ i k. code_passes r image i (get_or codes i 0) (h i k), tt)
 
   -- the first piece that is refused
-  pub codes_stop : (codes : List ℕ) (i : ℕ) (x : Refusal) → Has image i → CodesTo r image codes i
-      → Fault (piece_block_checks (block_at image (suc i))) (said x) → Fault (room_checks image) (said_in x (i + 1))
+  pub codes_stop : (codes : List ℕ) (i : ℕ) (x : RoomRefusal) → Has image i → CodesTo r image codes i → x.block ≡ i + 1
+      → Fault (piece_block_checks (block_at image (suc i))) (said x.refusal) → Fault (room_checks image) (room_said x)
   unfolding room_checks
-  codes_stop codes i x has h f =
-      rw (add-one i) (fault_right (head_checks image) (pieces_check piece_block_checks image ∷ []) (said_in x (suc i)) has.head (inl first))
+  codes_stop codes i x has h e f =
+      rw (e ∙ add-one i) (fault_right (head_checks image) (pieces_check piece_block_checks image ∷ []) (said_in x.refusal (suc i)) has.head (inl first))
     where
-      first : FirstRefused piece_block_checks image (count image) (said_in x (suc i))
-      first = record { piece = i; below = has.below; before = λ j k. code_passes r image j (get_or codes j 0) (h j k); refusal = said x; fault = f; same = refl }
-
-  pub coded_few : (codes : List ℕ) (n : ℕ) → AllCoded r image codes n → n ≤ 126
-  coded_few codes n a = let e = a.pieces in let h = few_pieces image a.passes in omega arith
+      first : FirstRefused piece_block_checks image (count image) (said_in x.refusal (suc i))
+      first = record { piece = i; below = has.below; before = λ j k. code_passes r image j (get_or codes j 0) (h j k); refusal = said x.refusal; fault = f; same = refl }
 
 -- a fault of the head is one of the room
 pub head_fault : (image : List ℕ) (x : RoomRefusal) → Fault (head_checks image) (room_said x) → Fault (room_checks image) (room_said x)
@@ -106,23 +104,26 @@ module _ (r : Run) (image : List ℕ) where
     room_refused list x f =
         (fault_right (run_checks r) (room_checks image ++ last list) (room_said x) good (fault_left (room_checks image) (last list) (room_said x) f), refl)
 
-    module _ (codes : List ℕ) (n : ℕ) (all : AllCoded r image codes n) where
+    module _ (codes : List ℕ) (n : ℕ) (e : n ≡ count image) (all : AllCoded r image codes) where
       pub list_short : (list : List ℕ) → length list < n → (x : RoomRefusal) → Unblocked Short x → VerdictsSay r image list list (Err x)
       unfolding verdicts_checks
       list_short list h x u =
-          let e = all.pieces in rw u (
+          rw u (
             fault_right (run_checks r) (room_checks image ++ last list) (refuse 10 0 0) good
                 (fault_right (room_checks image) (last list) (refuse 10 0 0) all.passes (inl (λ k. omega arith, refl))),
             refl,
           )
 
-      pub list_filled : (before after : List ℕ) → n ≤ length before → Front 0 codes n before after → Filled r image before after n
+      -- the list begins with the codes
+      pub list_filled : (before after : List ℕ) → n ≤ length before → after ≡ take n codes ++ drop n before → Filled r image before after n
       unfolding verdicts_checks
       list_filled before after h s =
-          let e = all.pieces in
+          let long : length (take n codes) ≡ n = length-take-le n codes (let m = all.room in omega arith) in
+          let made = front_made 0 (take n codes) before (omega arith) in
+          let same : after ≡ fronted (take n codes) before = s ∙ ap (λ j. take n codes ++ drop j before) (sym long) in
           record {
             passes = passes_append (run_checks r) (room_checks image ++ last before) good (passes_append (room_checks image) (last before) all.passes (omega arith, tt));
             pieces = e;
-            verdicts = λ i k. let l : i < n = omega arith in rw (s.first i l) (all.coded i k);
-            stays = record { size = s.stays.size; rest = λ i k. s.stays.rest i (omega arith) };
+            verdicts = λ i k. let l : i < n = omega arith in rw (same, made.first i (omega arith), get_or-take n codes i 0 l) (all.coded i k);
+            stays = record { size = ap length same ∙ made.stays.size; rest = λ i k. ap (λ (l : List ℕ). get_or l i 0) same ∙ made.stays.rest i (omega arith) };
           }

@@ -1,12 +1,11 @@
 -- What the pass over a room finds: a code for each piece, or the first refusal. Assumes nothing.
-use Rattle.std.specs.Prelude.{◌≡◌, List, ℕ, suc, ◌<◌, get_or, Result, Ok, Err}
+use Rattle.std.specs.Prelude.{List, ℕ, suc, ◌≤◌, ◌<◌, length, get_or, Result, Ok, Err}
 use Rattle.rules.specs.Reach.{Run}
 use Rattle.rules.specs.Refusal.{Passes, Fault}
 use Rattle.refusal.specs.Said.{said}
 use Rattle.piece.specs.Tells.{Coded}
 use Rattle.piece_block.specs.Reading.{piece_block_checks}
 use Rattle.room.specs.declared.RoomRefusal.{RoomRefusal}
-use Rattle.room.specs.declared.pass.Codes.{Codes}
 use Rattle.seal.specs.Seal.{block_at}
 use Rattle.room.specs.Image.{count, room_checks, room_said}
 use Rattle.room.specs.Verdicts.{CodeOf}
@@ -20,12 +19,12 @@ CodeFound r image i (Err x) = Fault (piece_block_checks (block_at image (suc i))
 abbrev pub CodesTo : Run → List ℕ → List ℕ → ℕ → Type 0
 CodesTo r image codes n = (i : ℕ) → i < n → CodeOf r image i (get_or codes i 0)
 
--- every piece
-pub record AllCoded (r : Run) (image codes : List ℕ) (n : ℕ) : Type 0 where
+-- a code for every piece
+pub record AllCoded (r : Run) (image codes : List ℕ) : Type 0 where
+  pub room : count image ≤ length codes
   pub passes : Passes (room_checks image)
-  pub pieces : n ≡ count image
   pub coded : CodesTo r image codes (count image)
 
-abbrev pub CodesSay : Run → List ℕ → Result Codes RoomRefusal → Type 0
-CodesSay r image (Ok c) = AllCoded r image c.codes c.count
+abbrev pub CodesSay : Run → List ℕ → Result (List ℕ) RoomRefusal → Type 0
+CodesSay r image (Ok codes) = AllCoded r image codes
 CodesSay r image (Err x) = Fault (room_checks image) (room_said x)

@@ -40,6 +40,11 @@ room_said r = said_in r.refusal r.block
 abbrev pub Unblocked : Refusal → RoomRefusal → Type 0
 Unblocked x r = r ≡ record { refusal = x; block = 0 }
 
+-- what was found in block n, and a refusal as one of that block
+abbrev pub ToldIn : {A : Type 0} → ℕ → Result A Refusal → Result A RoomRefusal → Type 0
+ToldIn n found (Ok a) = found ≡ Ok a
+ToldIn n found (Err r) = (found ≡ Err r.refusal) × (r.block ≡ n)
+
 -- the piece count, or the refusal
 abbrev pub Counted : Type 0
 Counted = Result ℕ RoomRefusal

@@ -52,11 +52,6 @@ StepFinds image place s (Err r) = Stops image place (room_said r) s
 abbrev pub StepSays : List ℕ → ℕ → Step → Type 0
 StepSays image place s = StepFinds image place s s.found
 
--- the piece of a block, or the fault of that block
-abbrev pub BlockSays : List ℕ → ℕ → Result PieceRead RoomRefusal → Type 0
-BlockSays image place (Ok p) = PieceGood (block_at image (suc place)) p
-BlockSays image place (Err r) = StepFault image place (room_said r)
-
 -- a step goes on behind a piece alone
 abbrev pub next_of : ℕ → Found → ℕ
 next_of place (Ok (Some p)) = suc place

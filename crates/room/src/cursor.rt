@@ -1,19 +1,9 @@
 // A reader of a room: thin functions over the image and the place that it holds.
-ghost use Rattle.room.specs.Image.{Has};
-ghost use Rattle.room.specs.Step.{ReaderAt, BlockSays, FoundAt, StepSays};
+ghost use Rattle.room.specs.Step.{ReaderAt, FoundAt, StepSays};
 
-use crate::image::{block_of, head};
+use crate::image::{block_of, head, in_block};
 use crate::{Reader, RoomRefusal, Step};
 use piece_block::{PieceRead, read_piece};
-
-// The piece of a block at a place below the count.
-fn piece_of(image: &[u8], place: usize) -> Result<PieceRead, RoomRefusal>
-    requires { Has image.now place }
-    ensures { BlockSays image.now place result }
-{
-    let block = place + 1;
-    read_piece(block_of(image, place)).map_err(|refusal| RoomRefusal { refusal, block })
-}
 
 // What stands at a place of an image.
 fn found_at(image: &[u8], place: usize) -> Result<Option<PieceRead>, RoomRefusal>
@@ -21,7 +11,8 @@ fn found_at(image: &[u8], place: usize) -> Result<Option<PieceRead>, RoomRefusal
 {
     let count = head(image)?;
     if place < count {
-        Ok(Some(piece_of(image, place)?))
+        let piece = in_block(place + 1, read_piece(block_of(image, place)))?;
+        Ok(Some(piece))
     } else {
         Ok(None)
     }

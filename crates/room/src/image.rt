@@ -1,7 +1,7 @@
 // A room image: its head, and one of its piece blocks.
 ghost use Rattle.std.specs.Prelude.{◌≡◌, suc};
 ghost use Rattle.seal.specs.Seal.{block_at};
-ghost use Rattle.room.specs.Image.{HeadSays, Has};
+ghost use Rattle.room.specs.Image.{HeadSays, ToldIn, Has};
 
 use crate::RoomRefusal;
 use block::read_header;
@@ -28,6 +28,13 @@ pub(crate) fn head(image: &[u8]) -> Result<usize, RoomRefusal>
     } else {
         Err(Refusal::Length.into())
     }
+}
+
+// What was found in a block, its refusal told as one of that block.
+pub(crate) fn in_block<T>(block: usize, found: Result<T, Refusal>) -> Result<T, RoomRefusal>
+    ensures { ToldIn block found result }
+{
+    found.map_err(|refusal| RoomRefusal { refusal, block })
 }
 
 // The block of piece i.
