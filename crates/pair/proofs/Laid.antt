@@ -1,38 +1,29 @@
 -- Numbers laid out and read one by one: two bytes stored after those before them, and a number stored after those before it. Assumes nothing.
-use mathlib.Core.Path.{◌≡◌, sym, ◌∙◌}
+use mathlib.Core.Path.{◌≡◌, refl, sym, ap, ◌∙◌}
 use mathlib.Core.Logic.{◌⊎◌, inl, inr, ⊎_elim}
-use mathlib.Core.List.{List}
+use mathlib.Core.List.{List, [], ◌∷◌, ◌++◌, append_assoc}
 use Prim.Native.Nat.{ℕ, suc, ◌+◌, ◌*◌, ◌/◌, ◌%◌, ◌≤◌, ◌<◌}
 use native.Mathlib.Omega.{arith}
-use borrow.Author.Count.{below_more}
 use lib.IntN.{ℤ, pos}
-use lib.ListN.{length, get_or, set, length-set}
-use lib.Seq.{get_or-set_same, get_or-set_other, ext_get_or}
-use mir.Syntax.{w32}
-use mir.Val.{SFits, to_z, of_z}
-use mir.Facts.{to_z-of_z}
+use lib.ListN.{length, get_or, take, drop}
+use lib.Seq.{take_at, drop_at, take-suc, length-take-le, ext_get_or}
+use borrow.Rule.Slice.PartMut.{put_mid}
+use Rattle.std.proofs.lemmas.List.{drop-drop}
+use Rattle.std.proofs.Common.{add-one}
 use Rattle.whole.proofs.Order.{ℕ_or}
-use Rattle.whole.proofs.Front.{stored}
 use Rattle.pair.specs.Pair.{word, Spelt, words, NumbersOf}
-use Rattle.pair.proofs.Words.{low_at, high_at, words_length}
+use Rattle.pair.proofs.Words.{low_at, high_at, words_length, words_append}
 
 -- ---- writing: number j's two bytes, after those before it
-module _ (zs : List ℤ) (l : List ℕ) (j : ℕ) (h : 2 * suc j ≤ length l) where
-  -- the low byte in its place, and then the high one
-  abbrev lowered : List ℕ
-  lowered = set l (2 * j) (word (get_or zs j (pos 0)) % 256)
-
-  abbrev raised : List ℕ
-  raised = set lowered (2 * j + 1) (word (get_or zs j (pos 0)) / 256)
-
-  pub two_laid : ((k : ℕ) → k < 2 * j → get_or l k 0 ≡ get_or (words zs) k 0) → (k : ℕ) → k < 2 * (j + 1) → get_or raised k 0 ≡ get_or (words zs) k 0
-  two_laid f k g = two k (omega arith)
-    where
-      one : (k : ℕ) → k < 2 * j + 1 → get_or lowered k 0 ≡ get_or (words zs) k 0
-      one = stored 0 l (words zs) (2 * j) _ (omega arith) f (sym (low_at zs j))
-
-      two : (k : ℕ) → k < 2 * j + 1 + 1 → get_or raised k 0 ≡ get_or (words zs) k 0
-      two = stored 0 lowered (words zs) (2 * j + 1) _ (simp length-set (omega arith)) one (let e : 2 * j + 1 ≡ suc (2 * j) = omega arith in rw e (sym (high_at zs j)))
+pub laid_more : (zs : List ℤ) (l m ws : List ℕ) (j k : ℕ) → j < length zs → length l ≡ 2 * length zs → m ≡ words (take j zs) ++ drop (2 * j) l → k ≡ 2
+    → ws ≡ word (get_or zs j (pos 0)) % 256 ∷ word (get_or zs j (pos 0)) / 256 ∷ [] → put_mid (2 * j) k m ws ≡ words (take (j + 1) zs) ++ drop (2 * (j + 1)) l
+laid_more zs l m ws j k h long e two w =
+    let n : length (words (take j zs)) ≡ 2 * j = omega (arith, words_length (take j zs), length-take-le j zs (omega arith)) in
+    let front : take (2 * j) m ≡ words (take j zs) = rw e (take_at (words (take j zs)) (drop (2 * j) l) (2 * j) n) in
+    let back : drop (2 * j) m ≡ drop (2 * j) l = rw e (drop_at (words (take j zs)) (drop (2 * j) l) (2 * j) n) in
+    let more : words (take (j + 1) zs) ≡ words (take j zs) ++ ws = rw (add-one, take-suc zs j (pos 0) h, words_append, w) refl in
+    let past : drop k (drop (2 * j) l) ≡ drop (2 * (j + 1)) l = drop-drop k (2 * j) l ∙ ap (λ i. drop i l) (let q : 2 * j + k ≡ 2 * (j + 1) = omega arith in q) in
+    rw (front, back, past, more, append_assoc) refl
 
 -- ---- reading
 -- z is number j of the bytes
@@ -42,13 +33,6 @@ At l j z = Spelt (get_or l (2 * j) 0) (get_or l (2 * j + 1) 0) z
 -- the first n numbers are those of the bytes
 abbrev pub Read : List ℕ → ℕ → List ℤ → Type 0
 Read l n zs = (j : ℕ) → j < n → At l j (get_or zs j (pos 0))
-
--- one more
-pub read_more : (l : List ℕ) (zs : List ℤ) (j : ℕ) (z : ℤ) → j < length zs → SFits w32 z → Read l j zs → At l j z → Read l (j + 1) (set zs j (to_z w32 (of_z w32 z)))
-read_more l zs j z h f before s =
-    below_more (λ k. At l k (get_or (set zs j (to_z w32 (of_z w32 z))) k (pos 0))) j
-    (λ k g. rw (get_or-set_other zs j k (to_z w32 (of_z w32 z)) (pos 0) (λ q. omega arith)) (before k g))
-    (rw (get_or-set_same zs j (to_z w32 (of_z w32 z)) (pos 0) h, to_z-of_z f) s)
 
 -- all of them: every byte is that of its number
 module _ (l : List ℕ) (zs : List ℤ) (long : length l ≡ 2 * length zs) (bytes : (i : ℕ) → get_or l i 0 < 256) (r : Read l (length zs) zs) where

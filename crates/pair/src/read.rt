@@ -9,10 +9,8 @@ fn take(bytes: &[u8], numbers: &mut [i32])
     requires { length bytes.now ≡ 2 * length numbers.old }
     ensures { NumbersOf bytes.now numbers.new }
 {
-    let mut j = 0;
-    while j < numbers.len() {
-        numbers[j] = number_of(bytes[2 * j], bytes[2 * j + 1]);
-        j += 1;
+    for (j, z) in numbers.iter_mut().enumerate() {
+        *z = number_of([bytes[2 * j], bytes[2 * j + 1]]);
     }
 }
 

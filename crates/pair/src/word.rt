@@ -1,5 +1,5 @@
 // One number and its two bytes.
-ghost use Rattle.std.specs.Prelude.{◌≡◌, ◌/◌, ◌%◌, ◌<◌};
+ghost use Rattle.std.specs.Prelude.{◌≡◌, [], ◌∷◌, ◌/◌, ◌%◌, slice_index};
 ghost use Rattle.whole.specs.Decide.{Decides};
 ghost use Rattle.pair.specs.Pair.{Half, word, Spelt};
 
@@ -7,36 +7,18 @@ ghost use Rattle.pair.specs.Pair.{Half, word, Spelt};
 pub(crate) fn fits(z: i32) -> bool
     ensures { Decides (Half z) result }
 {
-    -32768 <= z && z <= 32767
+    i16::try_from(z).is_ok()
 }
 
-pub(crate) fn bits_of(z: i32) -> u32
+pub(crate) fn bytes_of(z: i32) -> [u8; 2]
     requires { Half z }
-    ensures { result ≡ word z }
+    ensures { result ≡ word z % 256 ∷ word z / 256 ∷ [] }
 {
-    if z < 0 { (z + 65536) as u32 } else { z as u32 }
+    (z as i16).to_le_bytes()
 }
 
-pub(crate) fn low(n: u32) -> u8
-    ensures { result ≡ n % 256 }
+pub(crate) fn number_of(bytes: [u8; 2]) -> i32
+    ensures { Spelt (slice_index bytes 0) (slice_index bytes 1) result }
 {
-    (n % 256) as u8
-}
-
-pub(crate) fn high(n: u32) -> u8
-    requires { n < 65536 }
-    ensures { result ≡ n / 256 }
-{
-    (n / 256) as u8
-}
-
-pub(crate) fn number_of(low: u8, high: u8) -> i32
-    ensures { Spelt low high result }
-{
-    let n = low as u32 + 256 * (high as u32);
-    if n < 32768 {
-        n as i32
-    } else {
-        n as i32 - 65536
-    }
+    i32::from(i16::from_le_bytes(bytes))
 }

@@ -1,32 +1,18 @@
 // Numbers into bytes.
-ghost use Rattle.std.specs.Prelude.{◌≡◌, suc, ◌+◌, ◌*◌, ◌/◌, ◌%◌, ◌≤◌, length, set};
+ghost use Rattle.std.specs.Prelude.{◌≡◌, ◌*◌, length};
 ghost use Rattle.rules.specs.Refusal.{Sought};
-ghost use Rattle.pair.specs.Pair.{Half, word, words, Halves, Wide, WritePairsSays};
+ghost use Rattle.pair.specs.Pair.{words, Halves, Wide, WritePairsSays};
 
-use crate::word::{bits_of, fits, high, low};
+use crate::word::{bytes_of, fits};
 use refusal::Refusal;
-
-// The two bytes of number j, in their place.
-fn lay_one(bytes: &mut [u8], j: usize, z: i32)
-    requires { (2 * suc j ≤ length bytes.old) × Half z }
-    ensures { bytes.new ≡ set (set bytes.old (2 * j) (word z % 256)) (2 * j + 1) (word z / 256) }
-{
-    let bits = bits_of(z);
-    let first = low(bits);
-    let second = high(bits);
-    bytes[2 * j] = first;
-    bytes[2 * j + 1] = second;
-}
 
 // Numbers into as many pairs of bytes.
 fn lay(numbers: &[i32], bytes: &mut [u8])
     requires { (length bytes.old ≡ 2 * length numbers.now) × Halves numbers.now }
     ensures { bytes.new ≡ words numbers.now }
 {
-    let mut j = 0;
-    while j < numbers.len() {
-        lay_one(bytes, j, numbers[j]);
-        j += 1;
+    for (j, z) in numbers.iter().enumerate() {
+        bytes[2 * j..2 * j + 2].copy_from_slice(&bytes_of(*z));
     }
 }
 

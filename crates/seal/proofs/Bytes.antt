@@ -1,13 +1,19 @@
 -- Laws of blocks as lists of bytes: zeros after the first bytes, the two sums, and when a list is the block of its first bytes. Assumes nothing.
 use mathlib.Core.Path.{◌≡◌, refl, sym, ap, ◌∙◌}
+use mathlib.Core.Bool.{◌&&◌}
 use mathlib.Core.Logic.{◌⊎◌, inl, inr, ⊎_elim}
 use mathlib.Core.List.{List, [], ◌∷◌, ◌++◌}
 use Prim.Native.Nat.{ℕ, zero, suc, ◌+◌, ◌*◌, ◌-◌, ◌%◌, ◌≤◌, ◌<◌}
 use native.Mathlib.Omega.{arith}
 use lib.ListN.{length, get_or, set, replicate, length-append, length-set, length-replicate, get_or-append}
 use lib.Seq.{get_or-append-add, get_or-set_same, get_or-set_other, ext_get_or}
+use lib.Dec.{eqb}
+use borrow.Author.Tests.{eqb-true, eq-eqb}
+use Rattle.whole.specs.Decide.{Decides}
+use Rattle.whole.proofs.Decide.{decides}
+use Rattle.whole.proofs.Flag.{and_yes, and_both}
 use Rattle.whole.proofs.Order.{ℕ_or}
-use Rattle.seal.specs.Seal.{block_size, body_size, byte, sum, plain_sum, weighed_sum, filled, block_of, Sealed}
+use Rattle.seal.specs.Seal.{block_size, body_size, byte, sum, plain_sum, weighed_sum, filled, block_of, SealedAs, Sealed}
 pub use Rattle.seal.specs.Scan.{Alike}
 
 -- ---- zeros after the first bytes
@@ -78,6 +84,14 @@ pub weighed_same : (l m : List ℕ) → Alike l m → weighed_sum l ≡ weighed_
 unfolding weighed_sum
 weighed_same l m h =
     ap (λ n. n % 255) (sum_same (λ i. (body_size - i) * byte l i) (λ i. (body_size - i) * byte m i) body_size (λ i k. ap (λ n. (body_size - i) * n) (h i k)))
+
+-- the check that a block has, beside the one that is right
+pub sealed_by : (l block : List ℕ) (p w q v : ℕ) → (p ≡ byte block body_size) × (w ≡ byte block (body_size + 1)) → (q ≡ plain_sum l) × (v ≡ weighed_sum l)
+    → Decides (SealedAs l block) (eqb p q && eqb w v)
+sealed_by l block p w q v s r =
+    decides _ (eqb p q && eqb w v)
+    (λ e. let b = and_yes (eqb p q) (eqb w v) e in record { first = sym s.0 ∙ eqb-true p q b.0 ∙ r.0; second = sym s.1 ∙ eqb-true w v b.1 ∙ r.1 })
+    (λ f. and_both (eqb p q) (eqb w v) (eq-eqb p q (s.0 ∙ f.first ∙ sym r.0)) (eq-eqb w v (s.1 ∙ f.second ∙ sym r.1)))
 
 -- ---- a block
 module _ (front : List ℕ) (few : length front ≤ body_size) where

@@ -1,21 +1,16 @@
 -- Zeros in the place of a list's last bytes: what stands where, and which list that is. Assumes nothing.
-use mathlib.Core.Path.{◌≡◌, sym, ◌∙◌}
+use mathlib.Core.Path.{◌≡◌, sym, ap, ◌∙◌}
 use mathlib.Core.Logic.{⊎_elim}
 use mathlib.Core.List.{List}
 use Prim.Native.Nat.{ℕ, ◌+◌, ◌-◌, ◌≤◌, ◌<◌}
 use native.Mathlib.Omega.{arith}
-use lib.ListN.{length, set, take, replicate, length-append, length-take, length-replicate, get_or-eq_default}
-use lib.Seq.{ext_get_or, get_or-take, get_or-set_same, get_or-set_other}
+use lib.ListN.{length, take, drop, replicate, length-append, length-take, length-replicate, get_or-eq_default}
+use lib.Seq.{ext_get_or, get_or-take}
 use Rattle.whole.proofs.Order.{ℕ_or}
 use Rattle.seal.specs.Seal.{byte}
 use Rattle.seal.specs.Scan.{Clean, cleared}
-use Rattle.seal.proofs.Bytes.{padded}
-
--- one more zero
-pub zero_more : (l : List ℕ) (from i : ℕ) → i < length l → Clean l from i → Clean (set l i 0) from (i + 1)
-zero_more l from i h f k r g =
-    ⊎_elim (λ (q : i ≤ k). let e : k ≡ i = omega arith in rw e (get_or-set_same l i 0 0 h))
-    (λ (q : k < i). get_or-set_other l i k 0 0 (λ e. omega arith) ∙ f k r q) (ℕ_or i k)
+use Rattle.seal.proofs.Bytes.{repeated, padded}
+use Rattle.seal.proofs.Replaced.{mid, mid_length, mid_before, mid_in, part_length}
 
 module _ (from : ℕ) (l : List ℕ) where
   pub cleared_length : length (cleared from l) ≡ length l
@@ -34,3 +29,13 @@ module _ (from : ℕ) (l : List ℕ) where
   cleared_is after n stays zeros =
       ext_get_or 0 after (cleared from l) (n ∙ sym cleared_length)
       (λ i h. ⊎_elim (λ (g : from ≤ i). zeros i g h ∙ sym (cleared_past i g)) (λ (g : i < from). stays i g ∙ sym (cleared_before i g)) (ℕ_or from i))
+
+  -- zeros in the place of all bytes from here on
+  pub refilled : (ys : List ℕ) → from ≤ length l → ys ≡ replicate (length (take (length l - from) (drop from l))) 0 → mid from (length l - from) l ys ≡ cleared from l
+  refilled ys h e =
+      let n : length ys ≡ length l - from = ap length e ∙ length-replicate {A = ℕ} (length (take (length l - from) (drop from l))) 0 ∙ part_length l from (length l - from) (omega arith) in
+      let s : from + (length l - from) ≤ length l = omega arith in
+      cleared_is (mid from (length l - from) l ys) (mid_length l ys from (length l - from) s n) (mid_before l ys from (length l - from) s n)
+      (λ i g k. let d : from + (i - from) ≡ i = omega arith in
+      let q : i - from < length l - from = omega (arith, mid_length l ys from (length l - from) s n) in
+      rw (sym d) (mid_in l ys from (length l - from) s n (i - from) q ∙ ap (λ (m : List ℕ). byte m (i - from)) e ∙ repeated 0 _ (i - from)))

@@ -1,22 +1,24 @@
 -- A block of two parts with zeros between them: its bytes and its sums. Assumes nothing.
 use Rattle.std.specs.Prelude.{Ok}
 use mathlib.Core.Path.{◌≡◌, refl, sym, ap, subst, ◌∙◌}
+use mathlib.Core.Bool.{Bool}
 use mathlib.Core.Logic.{⊎_elim}
 use mathlib.Core.List.{List, [], ◌++◌, append-nil}
 use Prim.Native.Nat.{ℕ, zero, suc, ◌+◌, ◌*◌, ◌-◌, ◌%◌, ◌≤◌, ◌<◌}
 use native.Mathlib.Omega.{arith}
-use lib.ListN.{length, take, drop, get_or-append, get_or-eq_default, length-append}
+use lib.ListN.{length, take, drop, replicate, length-drop, length-replicate, get_or-append, get_or-eq_default, length-append}
 use lib.Seq.{ext_get_or, length-take-le, get_or-take, get_or-drop, get_or-append-add}
-use Rattle.whole.specs.Front.{Front}
+use Rattle.whole.specs.Decide.{Decides}
+use Rattle.whole.proofs.Decide.{yes, no, decide_by}
 use Rattle.whole.proofs.Order.{ℕ_or}
 use Rattle.seal.specs.Seal.{block_size, body_size, byte, sum, plain_sum, weighed_sum, filled, block_of, SealedAs}
-use Rattle.seal.specs.Parts.{PartsFit, parts_asked, parts_block, WritePartsSays}
-use Rattle.seal.specs.Scan.{Alike, SumsAt, Clean}
+use Rattle.seal.specs.Parts.{PartsFit, parts_asked, parts_block, WritePartsSays, PartsIn}
+use Rattle.seal.specs.Scan.{Alike, SumsAt}
 use Rattle.rules.specs.Refusal.{Check, Passes}
 use Rattle.refusal.specs.Said.{Writes, Checked}
 use Rattle.refusal.proofs.Unique.{written}
 use Rattle.seal.proofs.OneFault.{definite_parts_asked}
-use Rattle.seal.proofs.Bytes.{filled_at, filled_length, sum_same, sum_split, plain_same, weighed_same, block_at, block_sealed, block_is, block_same}
+use Rattle.seal.proofs.Bytes.{repeated, filled_at, filled_length, sum_same, sum_split, plain_same, weighed_same, block_at, block_sealed, block_is, block_same}
 use Rattle.seal.proofs.Replaced.{mid, part_length, mid_before, mid_in, mid_after}
 
 -- a sum goes no further than what is not zero
@@ -46,29 +48,43 @@ module _ (first last : List ℕ) (at : ℕ) (fit : PartsFit first last at) where
   both_last : (j : ℕ) → byte both (at + j) ≡ byte last j
   both_last j = ap (λ m. byte both (m + j)) (sym long) ∙ get_or-append-add (filled at first) last j 0
 
-  -- ---- the bytes, as they are laid: zeros, the first part, and the last in its place
-  module _ (z m y : List ℕ) (n : ℕ) (zl : length z ≡ block_size) (zs : Clean z 0 body_size) (b : Front 0 first (length first) z m) (l : (j : ℕ) → j < length last → byte y j ≡ byte last j) where
-    first_is : (i : ℕ) → i < body_size → byte m i ≡ byte first i
-    first_is i g =
-        ⊎_elim (λ (q : length first ≤ i). b.stays.rest i q ∙ zs i (omega arith) g ∙ sym (get_or-eq_default first 0 {n = i} q)) (λ (q : i < length first). b.first i q) (ℕ_or (length first) i)
+  -- ---- the bytes, as they are laid: zeros, the first part over them, and the last in its place
+  module _ (k : ℕ) (kl : k ≡ block_size) where
+    abbrev over : List ℕ
+    over = first ++ drop (length first) (replicate k 0)
 
-    pub parts_alike : length y ≡ n → n ≡ length last → Alike (mid at n m y) both
-    parts_alike e f i g =
-        let s : at + n ≤ length m = omega (arith, b.stays.size) in
+    over_long : length over ≡ block_size
+    over_long = omega (arith, length-append first (drop (length first) (replicate k 0)), length-drop (length first) (replicate {A = ℕ} k 0), length-replicate {A = ℕ} k 0)
+
+    over_at : (i : ℕ) → byte over i ≡ byte first i
+    over_at i =
+        ⊎_elim
+        (λ (q : length first ≤ i). let d : length first + (i - length first) ≡ i = omega arith in
+        rw d at (get_or-append-add first (drop (length first) (replicate k 0)) (i - length first) 0 ∙ get_or-drop (length first) (replicate k 0) (i - length first) 0 ∙ repeated 0 k (length first + (i - length first)))
+        ∙ sym (get_or-eq_default first 0 {n = i} q))
+        (λ (q : i < length first). get_or-append first (drop (length first) (replicate k 0)) 0 i q)
+        (ℕ_or (length first) i)
+
+    laid : Alike (mid at (length last) over last) both
+    laid i g =
+        let s : at + length last ≤ length over = omega (arith, over_long) in
         ⊎_elim
         (λ (q : at ≤ i). let d : at + (i - at) ≡ i = omega arith in
         rw (sym d)
         (⊎_elim
-        (λ (p : n ≤ i - at). let c : n + (i - at - n) ≡ i - at = omega arith in
+        (λ (p : length last ≤ i - at). let c : length last + (i - at - length last) ≡ i - at = omega arith in
         rw (sym c)
-        (mid_after m y at n s e (i - at - n)
-        ∙ first_is (at + (n + (i - at - n))) (omega arith)
-        ∙ get_or-eq_default first 0 {n = at + (n + (i - at - n))} (omega arith)
-        ∙ sym (both_last (n + (i - at - n)) ∙ get_or-eq_default last 0 {n = n + (i - at - n)} (omega arith))))
-        (λ (p : i - at < n). mid_in m y at n s e (i - at) p ∙ l (i - at) (omega arith) ∙ sym (both_last (i - at)))
-        (ℕ_or n (i - at))))
-        (λ (q : i < at). mid_before m y at n s e i q ∙ first_is i g ∙ sym (both_first i q))
+        (mid_after over last at (length last) s refl (i - at - length last)
+        ∙ over_at (at + (length last + (i - at - length last)))
+        ∙ get_or-eq_default first 0 {n = at + (length last + (i - at - length last))} (omega arith)
+        ∙ sym (both_last (length last + (i - at - length last)) ∙ get_or-eq_default last 0 {n = length last + (i - at - length last)} (omega arith))))
+        (λ (p : i - at < length last). mid_in over last at (length last) s refl (i - at) p ∙ sym (both_last (i - at)))
+        (ℕ_or (length last) (i - at))))
+        (λ (q : i < at). mid_before over last at (length last) s refl i q ∙ over_at i ∙ sym (both_first i q))
         (ℕ_or at i)
+
+    pub parts_alike : (z x y : List ℕ) (n : ℕ) → z ≡ replicate k 0 → x ≡ first → y ≡ last → n ≡ length last → Alike (mid at n (x ++ drop (length first) z) y) both
+    parts_alike z x y n a b c d = rw (a, b, c, d) laid
 
   -- ---- the sums, of any weight that zeros do not have
   sums : (g : ℕ → ℕ → ℕ) → ((i : ℕ) → g i 0 ≡ 0) → sum (λ i. g i (byte both i)) body_size ≡ sum (λ i. g i (byte first i)) (length first) + sum (λ j. g (at + j) (byte last j)) (length last)
@@ -93,68 +109,61 @@ module _ (first last : List ℕ) (at : ℕ) (fit : PartsFit first last at) where
         (λ i l. let e : i ≡ 0 + i = omega arith in ap (λ m. (body_size - m) * byte first i) e) in
         ap (λ n. n % 255) (sums (λ i b. (body_size - i) * b) (λ i. omega arith) ∙ omega (arith, o, a.weighed_is, b.weighed_is))
 
-  -- ---- a block that holds both, and one that is made of them
+  -- ---- a block that holds both
   module _ (block : List ℕ) (n : length block ≡ block_size) where
-    size : at + length last - at ≡ length last
-    size = omega arith
+    abbrev head : List ℕ
+    head = take at block
 
-    module _ (g : Alike block both) where
-      pub held_first : take (length first) block ≡ first
-      held_first =
-          let e = length-take-le (length first) block (omega arith) in
-          ext_get_or 0 (take (length first) block) first e (λ i l. get_or-take (length first) block i 0 (omega arith) ∙ g i (omega arith) ∙ both_first i (omega arith))
+    abbrev tail : List ℕ
+    tail = take (body_size - at) (drop at block)
 
-      pub held_gap : Clean block (length first) at
-      held_gap i l r = g i (omega arith) ∙ both_first i r ∙ get_or-eq_default first 0 {n = i} l
+    head_long : length head ≡ at
+    head_long = length-take-le at block (omega arith)
 
-      pub held_last : take (at + length last - at) (drop at block) ≡ last
-      held_last =
-          let e = part_length block at (at + length last - at) (omega arith) in
-          ext_get_or 0 (take (at + length last - at) (drop at block)) last (e ∙ size)
-          (λ j l. get_or-take (at + length last - at) (drop at block) j 0 (omega arith)
-          ∙ get_or-drop at block j 0
-          ∙ g (at + j) (omega arith)
-          ∙ both_last j)
+    tail_long : length tail ≡ body_size - at
+    tail_long = part_length block at (body_size - at) (omega arith)
 
-      pub held_rest : Clean block (at + length last) body_size
-      held_rest i l r =
-          let d : at + (i - at) ≡ i = omega arith in
-          g i r ∙ ap (byte both) (sym d) ∙ both_last (i - at) ∙ get_or-eq_default last 0 {n = i - at} (omega arith)
+    tail_at : (j : ℕ) → j < body_size - at → byte tail j ≡ byte block (at + j)
+    tail_at j r = get_or-take (body_size - at) (drop at block) j 0 r ∙ get_or-drop at block j 0
 
-    pub held : take (length first) block ≡ first → Clean block (length first) at → take (at + length last - at) (drop at block) ≡ last → Clean block (at + length last) body_size → Alike block both
-    held e z f y i r =
+    pub held : head ≡ filled (length head) first → tail ≡ filled (length tail) last → Alike block both
+    held e f i r =
         ⊎_elim
         (λ (q : at ≤ i). let d : at + (i - at) ≡ i = omega arith in
-        ⊎_elim
-        (λ (p : length last ≤ i - at). y i (omega arith) r ∙ sym (ap (byte both) (sym d) ∙ both_last (i - at) ∙ get_or-eq_default last 0 {n = i - at} p))
-        (λ (p : i - at < length last).
-        ap (byte block) (sym d)
-        ∙ sym (get_or-drop at block (i - at) 0)
-        ∙ sym (get_or-take (at + length last - at) (drop at block) (i - at) 0 (omega arith))
-        ∙ ap (λ (l : List ℕ). byte l (i - at)) f
-        ∙ sym (ap (byte both) (sym d) ∙ both_last (i - at)))
-        (ℕ_or (length last) (i - at)))
-        (λ (q : i < at).
-        ⊎_elim
-        (λ (p : length first ≤ i). z i p q ∙ sym (both_first i q ∙ get_or-eq_default first 0 {n = i} p))
-        (λ (p : i < length first). sym (get_or-take (length first) block i 0 p) ∙ ap (λ (l : List ℕ). byte l i) e ∙ sym (both_first i q))
-        (ℕ_or (length first) i))
+        rw (sym d) (sym (tail_at (i - at) (omega arith)) ∙ ap (λ (l : List ℕ). byte l (i - at)) f ∙ filled_at (length tail) last (i - at) ∙ sym (both_last (i - at))))
+        (λ (q : i < at). sym (get_or-take at block i 0 q) ∙ ap (λ (l : List ℕ). byte l i) e ∙ filled_at (length head) first i ∙ sym (both_first i q))
         (ℕ_or at i)
 
-    pub made : Alike block both → SealedAs both block → block ≡ block_of both
-    made g s = block_is block both both_few n (record { first = s.first ∙ sym (plain_same block both g); second = s.second ∙ sym (weighed_same block both g) }) g
+    module _ (g : Alike block both) where
+      pub held_first : head ≡ filled (length head) first
+      held_first =
+          ext_get_or 0 head (filled (length head) first) (sym (filled_length (length head) first (omega (arith, head_long))))
+          (λ i l. let r : i < at = omega (arith, head_long) in get_or-take at block i 0 r ∙ g i (omega arith) ∙ both_first i r ∙ sym (filled_at (length head) first i))
 
+      pub held_last : tail ≡ filled (length tail) last
+      held_last =
+          ext_get_or 0 tail (filled (length tail) last) (sym (filled_length (length tail) last (omega (arith, tail_long))))
+          (λ j l. let r : j < body_size - at = omega (arith, tail_long) in tail_at j r ∙ g (at + j) (omega arith) ∙ both_last j ∙ sym (filled_at (length tail) last j))
+
+  -- ---- a block that holds both and has their check is made of them
   module _ (block : List ℕ) (e : block ≡ block_of both) where
     pub made_alike : Alike block both
     made_alike i r = ap (λ (l : List ℕ). byte l i) e ∙ block_at both both_few i r
 
-    pub made_sealed : SealedAs both block
+    made_sealed : SealedAs both block
     made_sealed =
         let s = block_sealed both both_few in let g : Alike (block_of both) both = block_at both both_few in
         record {
           first = ap (λ (l : List ℕ). byte l body_size) e ∙ s.first ∙ plain_same (block_of both) both g;
           second = ap (λ (l : List ℕ). byte l (body_size + 1)) e ∙ s.second ∙ weighed_same (block_of both) both g;
         }
+
+  module _ (block : List ℕ) (n : length block ≡ block_size) (g : Alike block both) where
+    made : SealedAs both block → block ≡ block_of both
+    made s = block_is block both both_few n (record { first = s.first ∙ sym (plain_same block both g); second = s.second ∙ sym (weighed_same block both g) }) g
+
+    pub made_by : (t : Bool) → Decides (SealedAs both block) t → Decides (PartsIn first last at block) t
+    made_by t d = decide_by _ t (λ e. record { fit = fit; same = made (yes _ t d e) }) (λ e p. no _ t d e (made_sealed block p.same))
 
 -- ---- first bytes alone
 module _ (first : List ℕ) (at : ℕ) (h : length first ≤ at) (k : at ≤ body_size) where

@@ -1,14 +1,17 @@
 -- Bytes that have no name: when they are zero, and that they are in the block of its first bytes. Assumes nothing.
-use mathlib.Core.Path.{◌≡◌, sym, ap, ◌∙◌}
+use Rattle.std.specs.Prelude.{Option, Some, None}
+use mathlib.Core.Path.{◌≡◌, sym, ◌∙◌}
 use mathlib.Core.Logic.{⊎_elim}
 use mathlib.Core.List.{List}
-use Prim.Native.Nat.{ℕ, ◌+◌, ◌-◌, ◌≤◌, ◌<◌}
+use Prim.Native.Nat.{ℕ, ◌+◌, ◌≤◌, ◌<◌}
 use native.Mathlib.Omega.{arith}
-use lib.ListN.{length, get_or-eq_default}
+use lib.ListN.{length, take, drop, get_or-eq_default}
+use lib.Seq.{get_or-take, get_or-drop}
 use Rattle.whole.proofs.Order.{ℕ_or}
+use Rattle.rules.specs.Refusal.{Sought}
 use Rattle.seal.specs.Seal.{body_size, byte, block_of, NotZero, unnamed_check}
-use Rattle.seal.specs.Scan.{Clean}
 use Rattle.seal.proofs.Bytes.{block_at}
+use Rattle.seal.proofs.Replaced.{part_length}
 
 -- what is not otherwise is so
 pub stable : (a b : ℕ) → ((a ≡ b → ⊥) → ⊥) → a ≡ b
@@ -18,9 +21,19 @@ stable a b f =
     (λ (h : b < a). absurd (f (λ e. omega arith)))
     (ℕ_or a b)
 
--- no byte that must be zero is not
-pub clean_from : (l : List ℕ) (from : ℕ) → ((j : ℕ) → j < body_size - from → NotZero l from j → ⊥) → Clean l from body_size
-clean_from l from f i h k = let e : from + (i - from) ≡ i = omega arith in ap (byte l) (sym e) ∙ stable (byte l (from + (i - from))) 0 (f (i - from) (omega arith))
+-- what is sought in a part of a list, from here on
+module _ (l : List ℕ) (from n : ℕ) (h : from + n ≤ length l) where
+  abbrev part : List ℕ
+  part = take n (drop from l)
+
+  part_byte : (j : ℕ) → j < n → byte part j ≡ byte l (from + j)
+  part_byte j k = get_or-take n (drop from l) j 0 k ∙ get_or-drop from l j 0
+
+  pub sought_part : (r : Option ℕ) → Sought (λ j. byte part j ≡ 0 → ⊥) (length part) r → Sought (NotZero l from) n r
+  sought_part None f = λ j k b. f j (rw (part_length l from n h) k) (λ e. b (sym (part_byte j k) ∙ e))
+  sought_part (Some i) f =
+      let k : i < n = rw (part_length l from n h) at f.below in
+      record { below = k; bad = λ e. f.bad (part_byte i k ∙ e); before = λ j g b. f.before j g (λ e. b (sym (part_byte j (omega arith)) ∙ e)) }
 
 -- past its first bytes a block is zero
 pub unnamed_front : (front : List ℕ) (from : ℕ) → length front ≤ body_size → length front ≤ from → (unnamed_check (block_of front) from).passes

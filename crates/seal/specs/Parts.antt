@@ -9,8 +9,11 @@ pub record PartsFit (first last : List ℕ) (at : ℕ) : Type 0 where
   pub begin : length first ≤ at
   pub end : at + length last ≤ body_size
 
+abbrev pub fit_check : List ℕ → List ℕ → ℕ → Check
+fit_check first last at = demand (PartsFit first last at) (refuse 1 0 0)
+
 unfoldable pub parts_asked : List ℕ → List ℕ → List ℕ → ℕ → List Check
-parts_asked l first last at = length_check l ∷ demand (PartsFit first last at) (refuse 1 0 0) ∷ []
+parts_asked l first last at = length_check l ∷ fit_check first last at ∷ []
 
 -- and the block that is made of them
 abbrev pub parts_block : List ℕ → List ℕ → ℕ → List ℕ

@@ -1,59 +1,37 @@
-// Bytes that must be zero, and bytes that must be the same.
-ghost use Rattle.std.specs.Prelude.{◌≡◌, [], ◌∷◌, ◌-◌, ◌≤◌, length};
+// Bytes that must be zero, or a part and zeros.
+ghost use Rattle.std.specs.Prelude.{◌≡◌, ◌≤◌, [], ◌∷◌, length, replicate};
+ghost use Rattle.rules.specs.Refusal.{Sought};
 ghost use Rattle.refusal.specs.Said.{Finds};
-ghost use Rattle.whole.specs.Decide.{Decides, Seeks};
-ghost use Rattle.seal.specs.Seal.{block_size, body_size, length_check, NotZero, unnamed_check};
-ghost use Rattle.seal.specs.Scan.{Clean};
+ghost use Rattle.whole.specs.Decide.{Decides};
+ghost use Rattle.seal.specs.Seal.{byte, filled, length_check, unnamed_check};
 
 use crate::layout::{BODY, SIZE};
 use refusal::Refusal;
 
-// Whether the bytes from here up to there are zero. No byte ends the loop early, so that it can go by many bytes at a time.
-pub(crate) fn clean(block: &[u8], from: usize, to: usize) -> bool
-    requires { (from ≤ to) × (to ≤ length block.now) }
-    ensures { Decides (Clean block.now from to) result }
+// Whether the bytes are zero. No byte ends the loop early, so that it can go by many bytes at a time.
+pub(crate) fn clean(bytes: &[u8]) -> bool
+    ensures { Decides (bytes.now ≡ replicate (length bytes.now) 0) result }
 {
-    let mut other: u8 = 0;
-    let mut i = from;
-    while i < to {
-        if block[i] != 0 {
-            other = 1;
-        }
-        i += 1;
-    }
-    other == 0
+    bytes.iter().fold(0, |all, byte| all | byte) == 0
 }
 
-// Whether two lists are the same, by many bytes at a time too.
-pub(crate) fn alike(a: &[u8], b: &[u8]) -> bool
-    requires { length a.now ≡ length b.now }
-    ensures { Decides (a.now ≡ b.now) result }
+// Whether the bytes are those of a part, and zeros after them.
+pub(crate) fn padded(bytes: &[u8], part: &[u8]) -> bool
+    requires { length part.now ≤ length bytes.now }
+    ensures { Decides (bytes.now ≡ filled (length bytes.now) part.now) result }
 {
-    let mut other: u8 = 0;
-    let mut i = 0;
-    while i < a.len() {
-        if a[i] != b[i] {
-            other = 1;
-        }
-        i += 1;
-    }
-    other == 0
+    let (front, rest) = bytes.split_at(part.len());
+    front == part && clean(rest)
 }
 
-// How many bytes are zero from here on.
-fn zeros_at(block: &[u8], from: usize) -> usize
-    requires { (from ≤ body_size) × (length block.now ≡ block_size) }
-    ensures seeks { Seeks (NotZero block.now from) (body_size - from) result }
-    ensures upper_bound { result ≤ body_size - from }
+// The first byte that is not zero.
+fn first_set(bytes: &[u8]) -> Option<usize>
+    ensures { Sought (λ j. byte bytes.now j ≡ 0 → ⊥) (length bytes.now) result }
 {
-    let mut j = 0;
-    while j < BODY - from {
-        if block[from + j] != 0 {
-            return j;
-        }
-        j += 1;
+    if clean(bytes) {
+        return None;
     }
-    j
+    bytes.iter().position(|byte| *byte != 0)
 }
 
 // Whether a block is zero from here up to its check; where it is not, the first byte is told.
@@ -66,8 +44,8 @@ pub fn check_unnamed(block: &[u8], from: usize) -> Result<(), Refusal>
     if BODY <= from {
         return Ok(());
     }
-    if clean(block, from, BODY) {
-        return Ok(());
+    match first_set(&block[from..BODY]) {
+        Some(j) => Err(Refusal::Kind(from + j)),
+        None => Ok(()),
     }
-    Err(Refusal::Kind(from + zeros_at(block, from)))
 }

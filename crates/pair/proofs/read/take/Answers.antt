@@ -7,4 +7,4 @@ pub returns : goal.returns
 returns c =
     let v = c.loop-j in let l = c.args.bytes.now in
     let long : length l ≡ 2 * length v.numbers = omega (arith, v.auto.numbers, c.requires) in
-    all_read l v.numbers long (λ i. omega (arith, c.type_inv.bytes i)) (λ j h. v.invariant.1 j (omega arith))
+    all_read l v.numbers long (λ i. omega (arith, c.type_inv.bytes i)) (λ j h. v.invariant j (omega arith))

@@ -1,19 +1,21 @@
 -- `seal::parts::is_parts` decides: the lengths, the first 510 bytes, and the check; together they are the block. Assumes nothing.
 use Rattle.std.proofs.Common.{ap, ◌∙◌, length}
-use Rattle.whole.proofs.Decide.{yes, no, decide_by}
-use Rattle.seal.proofs.Bytes.{block_length}
-use Rattle.seal.proofs.PartLaws.{both_few, made, made_alike, made_sealed}
+use Rattle.seal.specs.Parts.{PartsIn}
+use Rattle.seal.proofs.Bytes.{block_length, sealed_by}
+use Rattle.seal.proofs.PartLaws.{both_few, made_by, made_alike}
 use Rattle.seal.proofs.parts.is_parts.Goals as goal
 
 pub returns-then-block-ne-SIZE : goal.returns-then-block-ne-SIZE
 returns-then-block-ne-SIZE c p = let a = c.args in c.if-block-ne-SIZE.true (ap length p.same ∙ block_length _ (both_few a.first.now a.last.now a.at p.fit))
 
-pub returns-then-not-holds : goal.returns-then-not-holds
-returns-then-not-holds c p = let a = c.args in c.if-not-holds.ensures (made_alike a.first.now a.last.now a.at p.fit a.block.now p.same)
+pub returns-then-hold : goal.returns-then-hold
+returns-then-hold c =
+    let p = c.in-Ok.parts in let e = c.in-Ok.ensures in let b = c.args.block.now in
+    let d = made_by p.first.now p.last.now p.at (record { begin = p.begin; end = p.end }) b c.if-block-ne-SIZE.false c.if-hold.ensures _ (sealed_by _ b _ _ _ _ c.told.ensures c.sums.ensures) in
+    rw c.eq.ensures (rw (e.0, e.1, e.2) at d)
 
-pub returns : goal.returns
-returns c =
-    let a = c.args in let s = c.is_sealed in let f = c.if-not-fit.ensures in
-    decide_by _ s.result
-    (λ e. record { fit = f; same = made a.first.now a.last.now a.at f a.block.now c.if-block-ne-SIZE.false c.if-not-holds.ensures (yes _ s.result s.ensures e) })
-    (λ e p. no _ s.result s.ensures e (made_sealed a.first.now a.last.now a.at p.fit a.block.now p.same))
+pub returns-else-hold : goal.returns-else-hold
+returns-else-hold c =
+    let p = c.in-Ok.parts in let e = c.in-Ok.ensures in
+    let d : PartsIn p.first.now p.last.now p.at c.args.block.now → ⊥ = λ q. c.if-hold.ensures (made_alike p.first.now p.last.now p.at q.fit c.args.block.now q.same) in
+    rw c.if-hold.false (rw (e.0, e.1, e.2) at d)

@@ -1,9 +1,9 @@
--- `seal::parts::sums_at` meets its contract: both sums over the bytes passed, each at most what so many bytes can come to. Assumes nothing.
+-- `seal::sums::Sums::at` meets its contract: both sums over the bytes passed, each at most what so many bytes can come to. Assumes nothing.
 use Rattle.std.proofs.Common.{◌+◌, arith}
 use Rattle.seal.specs.Seal.{byte}
 use Rattle.seal.proofs.Bytes.{upto_none, upto_more}
 use Rattle.seal.proofs.Pairs.{byte_weight_most}
-use Rattle.seal.proofs.parts.sums_at.Goals as goal
+use Rattle.seal.proofs.sums.Sums.at.Goals as goal
 
 pub loop-i-init : goal.loop-i-init
 loop-i-init c = (upto_none _ _ _, upto_none _ _ _)

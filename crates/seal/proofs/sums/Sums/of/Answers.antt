@@ -1,9 +1,9 @@
--- `seal::sums::sums_of` meets its contract: both sums over the pairs of bytes passed are the block's. Assumes nothing.
+-- `seal::sums::Sums::of` meets its contract: both sums over the pairs of bytes passed are the block's. Assumes nothing.
 use Rattle.std.proofs.Common.{◌+◌, arith}
 use Rattle.seal.specs.Seal.{byte}
 use Rattle.seal.proofs.Bytes.{upto_none, upto_more, upto_all}
 use Rattle.seal.proofs.Pairs.{weight_most, ended}
-use Rattle.seal.proofs.sums.sums_of.Goals as goal
+use Rattle.seal.proofs.sums.Sums.of.Goals as goal
 
 pub loop-i-init : goal.loop-i-init
 loop-i-init c = (upto_none _ _ _, upto_none _ _ _)
