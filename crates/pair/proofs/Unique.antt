@@ -1,12 +1,12 @@
 -- Two outcomes that both meet a public contract, answer and what is left, are equal. Assumes nothing.
-use Rattle.std.specs.Prelude.{Option, Some, None, Ok, Err}
+use Rattle.std.specs.Prelude.{Option, Ok, Err}
 use mathlib.Core.Path.{◌≡◌, refl, sym, ap, ◌∙◌}
 use mathlib.Core.List.{List, [], ◌∷◌}
 use Prim.Native.Nat.{ℕ}
 use lib.IntN.{ℤ}
 use lib.ListN.{length}
 use Rattle.rules.specs.Refusal.{Check as Test, Sought}
-use Rattle.rules.proofs.Checks.{AllDefinite, first_one, definite_demand, definite_each, never_both}
+use Rattle.rules.proofs.Checks.{AllDefinite, sought_one, definite_demand, definite_each, never_both}
 use Rattle.refusal.specs.Said.{said, Checked}
 use Rattle.refusal.proofs.Unique.{refused_one, writes_one}
 use Rattle.pair.specs.Pair.{Wide, words, paired_check, pairs_asked, WritePairsSays, ReadPairsSays}
@@ -14,10 +14,7 @@ use Rattle.pair.proofs.Words.{numbers_one}
 
 -- ---- first_wide
 pub first_wide_one : (zs : List ℤ) (r s : Option ℕ) → Sought (Wide zs) (length zs) r → Sought (Wide zs) (length zs) s → r ≡ s
-first_wide_one zs None None f g = refl
-first_wide_one zs None (Some j) f g = absurd (f j g.below g.bad)
-first_wide_one zs (Some i) None f g = absurd (g i f.below f.bad)
-first_wide_one zs (Some i) (Some j) f g = ap Some (first_one (Wide zs) (length zs) i j f g)
+first_wide_one zs = sought_one (Wide zs) (length zs)
 
 -- ---- write_pairs
 pub definite_pairs_asked : (l : List ℕ) (zs : List ℤ) → AllDefinite (pairs_asked l zs)

@@ -1,5 +1,5 @@
 -- Bytes that have no name: when they are zero, and that they are in the block of its first bytes. Assumes nothing.
-use Rattle.std.specs.Prelude.{Option, Some, None}
+use Rattle.std.specs.Prelude.{Option}
 use mathlib.Core.Path.{◌≡◌, sym, ◌∙◌}
 use mathlib.Core.Logic.{⊎_elim}
 use mathlib.Core.List.{List}
@@ -9,6 +9,7 @@ use lib.ListN.{length, take, drop, get_or-eq_default}
 use lib.Seq.{get_or-take, get_or-drop}
 use Rattle.whole.proofs.Order.{ℕ_or}
 use Rattle.rules.specs.Refusal.{Sought}
+use Rattle.rules.proofs.Checks.{sought_map}
 use Rattle.seal.specs.Seal.{body_size, byte, block_of, NotZero, unnamed_check}
 use Rattle.seal.proofs.Bytes.{block_at}
 use Rattle.seal.proofs.Replaced.{part_length}
@@ -30,10 +31,8 @@ module _ (l : List ℕ) (from n : ℕ) (h : from + n ≤ length l) where
   part_byte j k = get_or-take n (drop from l) j 0 k ∙ get_or-drop from l j 0
 
   pub sought_part : (r : Option ℕ) → Sought (λ j. byte part j ≡ 0 → ⊥) (length part) r → Sought (NotZero l from) n r
-  sought_part None f = λ j k b. f j (rw (part_length l from n h) k) (λ e. b (sym (part_byte j k) ∙ e))
-  sought_part (Some i) f =
-      let k : i < n = rw (part_length l from n h) at f.below in
-      record { below = k; bad = λ e. f.bad (part_byte i k ∙ e); before = λ j g b. f.before j g (λ e. b (sym (part_byte j (omega arith)) ∙ e)) }
+  sought_part r s =
+      sought_map (λ j. byte part j ≡ 0 → ⊥) (NotZero l from) n r (λ j k f e. f (part_byte j k ∙ e)) (λ j k f e. f (sym (part_byte j k) ∙ e)) (rw (part_length l from n h) at s)
 
 -- past its first bytes a block is zero
 pub unnamed_front : (front : List ℕ) (from : ℕ) → length front ≤ body_size → length front ≤ from → (unnamed_check (block_of front) from).passes

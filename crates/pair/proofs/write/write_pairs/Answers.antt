@@ -1,6 +1,7 @@
 -- `pair::write::write_pairs` meets its contract: the length, the numbers; then all their bytes. Assumes nothing.
 use Rattle.std.proofs.Common.{refl}
 use mathlib.Core.Logic.{inl, inr}
+use Rattle.rules.proofs.Checks.{each_fails}
 use Rattle.pair.specs.Pair.{pairs_asked}
 use Rattle.pair.proofs.write.write_pairs.Goals as goal
 
@@ -10,7 +11,7 @@ returns-then-bytes-numbers c = (inl (c.if-bytes-numbers.true, refl), refl)
 
 pub returns-in-Some : goal.returns-in-Some
 unfolding pairs_asked
-returns-in-Some c = (inr (c.if-bytes-numbers.false, inl (c.in-Some.wide, c.in-Some.ensures, refl)), refl)
+returns-in-Some c = (inr (c.if-bytes-numbers.false, inl (each_fails _ c.in-Some.ensures)), refl)
 
 pub returns : goal.returns
 unfolding pairs_asked
