@@ -1,5 +1,9 @@
 -- Request 1: what the two calls answer. Reading a line is an equality, so it has one answer; the next corner has one by proofs/Unique `next_one`. Assumes nothing.
-use Rattle.std.specs.Prelude.{◌≡◌, Bool, true, false, cond, not, List, [], ◌∷◌, ℕ, ◌*◌, ◌-◌, ◌%◌, ◌^◌, ◌≤◌, ◌<◌, eqb, leb, ltb, ℤ, pos, length, get_or, take, drop}
+use Rattle.std.specs.Prelude.{◌≡◌, Bool, true, false, cond, not, List, [], ◌∷◌, ℕ, ◌*◌, ◌-◌, ◌%◌, ◌^◌, ◌≤◌, ◌<◌, eqb, ltb, min, ℤ, length, get_or, take, drop, Option, None, Some, Result, Ok, Err}
+use Rattle.line.specs.declared.Missed.{Missed}
+use Rattle.line.specs.declared.Missed.TheVariants.{Beyond, OffGrid}
+use Rattle.line.specs.declared.Unnamed.{Unnamed}
+use Rattle.line.specs.declared.Unnamed.TheVariants.{NoVertex, NoCorner}
 use Rattle.line.specs.declared.Said.{Said}
 use Rattle.line.specs.declared.Said.TheVariants as says
 use Rattle.line.specs.declared.Corner.{Corner}
@@ -8,22 +12,15 @@ use Rattle.line.specs.Number.{Decimal, gridded, is_corner, index}
 use Rattle.line.specs.Line.{Line, passed, other, vertex, face, names, all_named}
 
 -- ---- a line
--- a decimal as a table of vertices has it: its grid number, or which refusal it gets
-abbrev pub BEYOND : ℤ
-BEYOND = pos 65536
-
-abbrev pub OFF : ℤ
-OFF = pos 65537
-
--- one whose size is more than 1,024 is out of reach; one is on the grid where sixteen times it is whole. That the intake's `Within` and `grid` say so of its value: proofs/Exact `tells`
-unfoldable pub entry : Decimal → ℤ
-entry d = cond (ltb (1024 * 10 ^ d.places) d.whole) BEYOND (cond (eqb (16 * d.whole % 10 ^ d.places) 0) (gridded d) OFF)
+-- a decimal's grid number, or what keeps it from the grid: one whose size is more than 1,024 is out of reach; one is on the grid where sixteen times it is whole. That the intake's `Within` and `grid` say so of its value: proofs/Exact `tells`
+unfoldable pub entry : Decimal → Result ℤ Missed
+entry d = cond (ltb (1024 * 10 ^ d.places) d.whole) (Err Beyond) (cond (eqb (16 * d.whole % 10 ^ d.places) 0) (Ok (gridded d)) (Err OffGrid))
 
 -- what a line says, with k vertices above it
 abbrev pub said_of : ℕ → Line → Said
 said_of k passed = says.Passed
 said_of k other = says.Other
-said_of k (vertex p) = says.Vertex (entry p.x) (entry p.y)
+said_of k (vertex p) = says.Vertex (record { x = entry p.x; y = entry p.y })
 said_of k (face ns) = says.Face (all_named k ns)
 
 -- ---- the next word of a line, and the vertex that it names as a corner
@@ -49,18 +46,25 @@ pub record Word (line : List ℕ) (at from to : ℕ) : Type 0 where
   pub some : from < length line → from < to
   pub words : words (drop at line) ≡ words_from line from to
 
--- no vertex, or no number: no file has as many vertices
-abbrev pub NOT : ℕ
-NOT = 0xFFFFFFFF
+-- the vertex that an index names, of k above the line
+abbrev pub named : ℕ → ℤ → Result ℕ Unnamed
+named k n = cond (ltb (names k n) k) (Ok (names k n)) (Err NoVertex)
 
-abbrev pub corner_or : ℕ → List ℕ → ℕ
-corner_or k w = cond (is_corner w) (names k (index w)) NOT
+-- and that a word names as a corner
+abbrev pub corner_or : ℕ → List ℕ → Result ℕ Unnamed
+corner_or k w = cond (is_corner w) (named k (index w)) (Err NoCorner)
 
 -- a place of a line; one past its end is its end
 abbrev pub within : List ℕ → ℕ → ℕ
-within line at = cond (leb at (length line)) at (length line)
+within line at = min at (length line)
 
--- with k vertices above the line
-pub record Next (line : List ℕ) (at k : ℕ) (r : Corner) : Type 0 where
-  pub word : Word line (within line at) r.from r.to
-  pub vertex : r.vertex ≡ corner_or k (part r.from r.to line)
+-- a word from here on, with k vertices above the line
+pub record NextCorner (line : List ℕ) (at k : ℕ) (c : Corner) : Type 0 where
+  pub some : c.from < length line
+  pub word : Word line at c.from c.to
+  pub vertex : c.vertex ≡ corner_or k (part c.from c.to line)
+
+-- the next one, or none: then the next word would begin at the end
+abbrev pub Next : List ℕ → ℕ → ℕ → Option Corner → Type 0
+Next line at k None = Word line (within line at) (length line) (length line)
+Next line at k (Some c) = NextCorner line (within line at) k c

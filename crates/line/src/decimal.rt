@@ -1,55 +1,36 @@
 // Decimals, read exactly: the grid number of one, or what keeps it from the grid.
-ghost use Rattle.std.specs.Prelude.{◌≡◌, cond, ◌+◌, ◌*◌, ◌^◌, ◌≤◌, ◌<◌, eqb, ltb};
-ghost use Rattle.line.specs.Steps.{few_or, Entered, pointed_or, decimal_or};
+ghost use Rattle.std.specs.Prelude.{◌≡◌, cond, ◌+◌, ◌*◌, ◌≤◌, ◌<◌, eqb, ltb};
+ghost use Rattle.line.specs.Steps.{digit_or, number_or, few_or, Entered, pointed_or, decimal_or};
 
-use crate::text::until;
+use crate::Missed;
+use crate::text::cut;
 
-// No number.
-pub(crate) const NOT: u32 = 0xFFFF_FFFF;
-
-// A decimal out of reach, one off the grid, and what is no decimal: no grid number is as large.
-pub const BEYOND: i32 = 65536;
-
-pub const OFF: i32 = 65537;
-
-pub(crate) const NEITHER: i32 = 65538;
-
-// The number that one to nine digits say.
-fn few(w: &[u8]) -> u32
-    ensures { result ≡ few_or w.now }
+// What a digit says.
+fn digit(b: u8) -> Option<u32>
+    ensures { result ≡ digit_or b }
 {
-    if w.len() == 0 {
-        return NOT;
-    }
-    if 9 < w.len() {
-        return NOT;
-    }
-    let mut n = 0u32;
-    let mut i = 0;
-    while i < w.len() {
-        let b = w[i];
-        if b < 48 {
-            return NOT;
-        }
-        if 57 < b {
-            return NOT;
-        }
-        n = 10 * n + (b - 48) as u32;
-        i += 1;
-    }
-    n
+    if b.is_ascii_digit() { Some((b - b'0') as u32) } else { None }
 }
 
-const TENS: [u32; 10] = [
-    1, 10, 100, 1000, 10000, 100000, 1000000, 10000000, 100000000, 1000000000,
-];
-
-// A power of ten.
-fn power(n: usize) -> u32
-    requires { n ≤ 9 }
-    ensures { result ≡ 10 ^ n }
+// The number that digits say, or the largest of 32 bits where it is above that.
+pub(crate) fn number(w: &[u8]) -> Option<u32>
+    ensures { result ≡ number_or w.now }
 {
-    TENS[n]
+    if w.is_empty() {
+        return None;
+    }
+    let mut n = 0u32;
+    for &b in w {
+        n = n.saturating_mul(10).saturating_add(digit(b)?);
+    }
+    Some(n)
+}
+
+// The number that one to nine digits say.
+fn few(w: &[u8]) -> Option<u32>
+    ensures { result ≡ few_or w.now }
+{
+    if 9 < w.len() { None } else { number(w) }
 }
 
 // Whether a whole number and a part of one are more than 1,024.
@@ -63,55 +44,41 @@ fn is_beyond(whole: u32, part: u32) -> bool
     }
 }
 
-// The entry of whole + part/scale: sixteen times it, BEYOND or OFF. The whole part is held against the reach first, so that nothing grows.
-fn grid_of(minus: bool, whole: u32, part: u32, scale: u32) -> i32
+// The entry of whole + part/scale. The whole part is held against the reach first, so that nothing grows.
+fn grid_of(minus: bool, whole: u32, part: u32, scale: u32) -> Result<i32, Missed>
     requires { (part < scale) × (scale ≤ 1000000000) }
     ensures { Entered minus (whole * scale + part) scale result }
 {
     if is_beyond(whole, part) {
-        return BEYOND;
+        return Err(Missed::Beyond);
     }
     let scaled = 16 * part as u64;
     if scaled % scale as u64 != 0 {
-        return OFF;
+        return Err(Missed::OffGrid);
     }
     let grid = (16 * whole + (scaled / scale as u64) as u32) as i32;
-    if minus { -grid } else { grid }
+    Ok(if minus { -grid } else { grid })
 }
 
 // A decimal past its sign: digits, perhaps a point and digits.
-fn unsigned(w: &[u8], minus: bool) -> i32
+fn unsigned(w: &[u8], minus: bool) -> Option<Result<i32, Missed>>
     ensures { result ≡ pointed_or minus w.now }
 {
-    let at = until(w, 0, 46, 46);
-    let whole = few(&w[..at]);
-    if whole == NOT {
-        return NEITHER;
+    let (whole, part) = cut(w, b'.');
+    let n = few(whole)?;
+    match part {
+        None => Some(grid_of(minus, n, 0, 1)),
+        Some(part) => Some(grid_of(minus, n, few(part)?, 10u32.pow(part.len() as u32))),
     }
-    if at == w.len() {
-        return grid_of(minus, whole, 0, 1);
-    }
-    let part = &w[at + 1..];
-    let n = few(part);
-    if n == NOT {
-        return NEITHER;
-    }
-    grid_of(minus, whole, n, power(part.len()))
 }
 
 // A decimal, or minus it.
-pub(crate) fn decimal(w: &[u8], turn: bool) -> i32
+pub(crate) fn decimal(w: &[u8], turn: bool) -> Option<Result<i32, Missed>>
     ensures { result ≡ decimal_or turn w.now }
 {
-    if w.len() == 0 {
-        return NEITHER;
+    match w {
+        [b'-', rest @ ..] => unsigned(rest, !turn),
+        [b'+', rest @ ..] => unsigned(rest, turn),
+        _ => unsigned(w, turn),
     }
-    let sign = w[0];
-    if sign == 45 {
-        return unsigned(&w[1..], !turn);
-    }
-    if sign == 43 {
-        return unsigned(&w[1..], turn);
-    }
-    unsigned(w, turn)
 }

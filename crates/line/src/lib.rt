@@ -2,138 +2,120 @@
 // The vertices above a line are counted in 16 bits: a file of 65,536 bytes has 8,192 at most.
 #![tactic(auto)]
 
-ghost use Rattle.std.specs.Prelude.{◌≡◌, ◌≤◌, ◌<◌, length, drop};
+ghost use Rattle.std.specs.Prelude.{◌≡◌};
 ghost use Rattle.line.specs.Text.{words};
-ghost use Rattle.line.specs.Line.{among, passed_words, vertex_line, face_line, line_of};
+ghost use Rattle.line.specs.Line.{face_line, line_of};
 ghost use Rattle.line.specs.Calls.{said_of, Next};
+ghost use Rattle.line.specs.Steps.{vertex_or};
 
-use crate::decimal::{NEITHER, decimal};
-use crate::index::{NONE, corner};
-use crate::text::{spelled, within, word};
+use crate::decimal::decimal;
+use crate::index::corner;
+use crate::text::word;
 
 mod decimal;
 mod index;
 mod text;
 
-pub use decimal::{BEYOND, OFF};
+// What keeps a number of a vertex from the grid: it is out of reach, or it is off the grid.
+#[derive(Clone, Copy, PartialEq, Eq)]
+pub enum Missed {
+    Beyond,
+    OffGrid,
+}
 
-// Passed over; any other line; a vertex, its x and our y as a table has them; a face, and whether every index names a vertex above it.
-#[derive(Clone, Copy)]
+// A vertex: its x and our y, each a grid number or what keeps it from the grid.
+#[derive(Clone, Copy, PartialEq, Eq)]
+pub struct Vertex {
+    pub x: Result<i32, Missed>,
+    pub y: Result<i32, Missed>,
+}
+
+// Passed over; any other line; a vertex; a face, and whether every index names a vertex above it.
+#[derive(Clone, Copy, PartialEq, Eq)]
 pub enum Said {
     Passed,
     Other,
-    Vertex(i32, i32),
+    Vertex(Vertex),
     Face(bool),
 }
 
-// A word of a line, from here up to there, and the vertex that it names as a corner; as many as there are above where it names none, and 0xFFFF_FFFF where it is no corner.
-#[derive(Clone, Copy)]
+// Why a word names no vertex: its index names none of those above the line, or it is no corner.
+#[derive(Clone, Copy, PartialEq, Eq)]
+pub enum Unnamed {
+    NoVertex,
+    NoCorner,
+}
+
+// A word of a line, from here up to there, and the vertex that it names as a corner.
+#[derive(Clone, Copy, PartialEq, Eq)]
 pub struct Corner {
     pub from: usize,
     pub to: usize,
-    pub vertex: usize,
+    pub vertex: Result<usize, Unnamed>,
 }
 
-// The next word from here on; it begins at the end where there is none.
-pub fn next_corner(line: &[u8], at: usize, above: u16) -> Corner
+// The next word from here on, if there is one.
+pub fn next_corner(line: &[u8], at: usize, above: u16) -> Option<Corner>
     ensures { Next line.now at above result }
 {
-    let w = word(line, within(line, at));
-    let from = w.from;
-    let to = w.to;
-    let vertex = corner(&line[from..to], above as usize);
-    Corner { from, to, vertex }
+    let at = at.min(line.len());
+    let (w, rest) = word(&line[at..])?;
+    let to = line.len() - rest.len();
+    let from = to - w.len();
+    let vertex = corner(w, above);
+    Some(Corner { from, to, vertex })
 }
 
 // Three decimals and nothing else.
-fn vertex(line: &[u8], at: usize) -> Said
-    requires { at ≤ length line.now }
-    ensures { result ≡ said_of 0 (vertex_line (words (drop at line.now))) }
+fn read_vertex(line: &[u8]) -> Option<Vertex>
+    ensures { result ≡ vertex_or (words line.now) }
 {
-    let a = word(line, at);
-    let b = word(line, a.to);
-    let c = word(line, b.to);
-    let d = word(line, c.to);
-    let from = c.from;
-    let to = c.to;
-    if from == line.len() {
-        return Said::Other;
+    let (x, rest) = word(line)?;
+    let (height, rest) = word(rest)?;
+    let (z, rest) = word(rest)?;
+    if word(rest).is_some() || decimal(height, false).is_none() {
+        return None;
     }
-    if d.from != line.len() {
-        return Said::Other;
-    }
+    let x = decimal(x, false)?;
     // minus their z is our y
-    let y = decimal(&line[from..to], true);
-    let from = a.from;
-    let to = a.to;
-    let x = decimal(&line[from..to], false);
-    let from = b.from;
-    let to = b.to;
-    let height = decimal(&line[from..to], false);
-    if x == NEITHER {
-        return Said::Other;
-    }
-    if height == NEITHER {
-        return Said::Other;
-    }
-    if y == NEITHER {
-        return Said::Other;
-    }
-    Said::Vertex(x, y)
+    let y = decimal(z, true)?;
+    Some(Vertex { x, y })
 }
 
 // Corners, as many as there are.
-fn face(line: &[u8], at: usize, above: usize) -> Said
-    requires { (at ≤ length line.now) × (above < 65536) }
-    ensures { result ≡ said_of above (face_line (words (drop at line.now))) }
+fn read_face(line: &[u8], above: u16) -> Said
+    ensures { result ≡ said_of above (face_line (words line.now)) }
 {
-    let first = word(line, at);
-    let mut from = first.from;
-    let mut to = first.to;
+    let mut rest = line;
     let mut all = true;
-    while from < line.len() {
-        let v = corner(&line[from..to], above);
-        if v == NONE {
-            return Said::Other;
+    while let Some((w, more)) = word(rest) {
+        match corner(w, above) {
+            Ok(_) => {}
+            Err(Unnamed::NoVertex) => all = false,
+            Err(Unnamed::NoCorner) => return Said::Other,
         }
-        all = all & (v < above);
-        let next = word(line, to);
-        from = next.from;
-        to = next.to;
+        rest = more;
     }
     Said::Face(all)
-}
-
-// Whether a line that begins with this word is passed over.
-fn is_passed(w: &[u8]) -> bool
-    ensures { result ≡ among w.now passed_words }
-{
-    let material = spelled(w, b"usemtl") | spelled(w, b"mtllib");
-    let longer = spelled(w, b"vn") | (spelled(w, b"vt") | material);
-    spelled(w, b"o") | (spelled(w, b"g") | (spelled(w, b"s") | longer))
 }
 
 // A line, with so many vertices above it.
 pub fn read_line(line: &[u8], above: u16) -> Said
     ensures { result ≡ said_of above (line_of line.now) }
 {
-    let first = word(line, 0);
-    let from = first.from;
-    let to = first.to;
-    if from == line.len() {
+    let Some((first, rest)) = word(line) else {
+        return Said::Passed;
+    };
+    if line[0] == b'#' {
         return Said::Passed;
     }
-    if line[0] == 35 {
-        return Said::Passed;
+    match first {
+        b"v" => match read_vertex(rest) {
+            Some(v) => Said::Vertex(v),
+            None => Said::Other,
+        },
+        b"f" => read_face(rest, above),
+        b"o" | b"g" | b"s" | b"vn" | b"vt" | b"usemtl" | b"mtllib" => Said::Passed,
+        _ => Said::Other,
     }
-    if spelled(&line[from..to], b"v") {
-        return vertex(line, to);
-    }
-    if spelled(&line[from..to], b"f") {
-        return face(line, to, above as usize);
-    }
-    if is_passed(&line[from..to]) {
-        return Said::Passed;
-    }
-    Said::Other
 }
