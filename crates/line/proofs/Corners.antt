@@ -1,47 +1,24 @@
 -- Corners by their parts: whole numbers as far as they can name a vertex, and the vertex that one names. Assumes nothing.
-use mathlib.Core.Path.{◌≡◌, refl, sym, ap, ap₂, ◌∙◌}
+use mathlib.Core.Path.{◌≡◌, refl, sym, subst, ap₂}
 use mathlib.Core.Bool.{Bool, true, false, cond, not, ◌&&◌, ◌||◌}
-use mathlib.Core.Logic.{⊎_elim}
 use mathlib.Core.List.{List, [], ◌∷◌}
-use Prim.Native.Nat.{ℕ, zero, suc, ◌+◌, ◌*◌, ◌-◌, ◌≤◌, ◌<◌, min}
+use Prim.Native.Nat.{ℕ, zero, suc, ◌-◌, ◌≤◌, ◌<◌}
 use native.Mathlib.Omega.{arith}
-use borrow.Author.Tests.{ltb-true, ltb-false, eqb-true, eqb-false, lt-ltb, le-ltb, ne_eqb}
+use borrow.Author.Tests.{eqb-true, lt-ltb, le-ltb, ne_eqb}
 use lib.Dec.{ltb, eqb, lit<}
-use lib.IntN.{ℤ, pos, negsuc}
-use lib.ListN.{length, get_or, take, drop, length-take}
-use lib.Seq.{get_or-take}
-use Rattle.whole.proofs.Flag.{by_flag, decided, and_yes}
+use Rattle.whole.proofs.Flag.{and_yes}
 use Rattle.grid.specs.Number.{signed}
 use Rattle.line.specs.Text.{parts, slash}
-use Rattle.line.specs.Number.{all_digits, empty, digits, amount, number, minus, past, is_whole, whole, is_after, is_corner, index}
+use Rattle.line.specs.Number.{all_digits, empty, digits, number, minus, past, is_whole, whole, is_after, is_corner, index}
 use Rattle.line.specs.Line.{names}
-use Rattle.line.specs.Calls.{NOT, corner_or}
-use Rattle.line.specs.Steps.{saturated, whole_or, Named}
-use Rattle.line.proofs.Told.{there, lacking}
+use Rattle.line.specs.declared.Unnamed.{Unnamed}
+use Rattle.line.specs.declared.Unnamed.TheVariants.{NoVertex, NoCorner}
+use Rattle.line.specs.Calls.{named, corner_or}
+use Rattle.line.specs.Steps.{saturated, whole_or}
 use Rattle.line.proofs.Parts.{alone}
-use Rattle.line.proofs.Digits.{next_amount, digits_unparted}
-
--- ---- a number as far as it can name a vertex
-pub saturated_min : (n : ℕ) → saturated n ≡ min n 65536
-saturated_min n = by_flag (λ v. v ≡ min n 65536) (ltb n 65536) n 65536 (λ e. omega (arith, ltb-true n 65536 e)) (λ e. omega (arith, ltb-false n 65536 e))
-
-pub saturated_few : (n : ℕ) → n ≤ 65536 → saturated n ≡ n
-saturated_few n h = omega (arith, saturated_min n)
-
--- one more digit
-saturated_more : (n d : ℕ) → saturated (10 * saturated n + d) ≡ saturated (10 * n + d)
-saturated_more n d = omega (arith, saturated_min n, saturated_min (10 * saturated n + d), saturated_min (10 * n + d))
-
--- what more digits make of it is known from it
-saturated_amount : (n : ℕ) (l : List ℕ) → saturated (amount (saturated n) l) ≡ saturated (amount n l)
-unfolding amount
-saturated_amount n [] = saturated_few (saturated n) (omega (arith, saturated_min n))
-saturated_amount n (b ∷ l) =
-    let d = b - 48 in
-    sym (saturated_amount (10 * saturated n + d) l) ∙ (ap (λ m. saturated (amount m l)) (saturated_more n d) ∙ saturated_amount (10 * n + d) l)
-
-pub next_count : (w : List ℕ) (i : ℕ) → i < length w → (n : ℕ) → saturated (amount n (drop i w)) ≡ saturated (amount (saturated (10 * n + (get_or w i 0 - 48))) (drop (i + 1) w))
-next_count w i h n = ap saturated (next_amount w i h n) ∙ sym (saturated_amount (10 * n + (get_or w i 0 - 48)) (drop (i + 1) w))
+use Rattle.line.proofs.Digits.{digits_unparted}
+use Rattle.std.specs.Option.{is_some}
+use Rattle.std.proofs.Common.{Some, None, Result, Ok, Err}
 
 -- ---- the vertex that a number names, of k
 module _ (k : ℕ) where
@@ -60,29 +37,24 @@ module _ (k : ℕ) where
   names_one true (suc i) h g = rw (lt-ltb i k (omega arith))
   names_one false (suc i) h g = rw (lt-ltb i k (omega arith)) (omega arith)
 
-  pub names_most : (z : ℤ) → names k z ≤ k
-  unfolding names
-  names_most (pos zero) = omega arith
-  names_most (pos (suc i)) = by_flag (λ v. v ≤ k) (ltb i k) i k (λ e. omega (arith, ltb-true i k e)) (λ e. omega arith)
-  names_most (negsuc i) = by_flag (λ v. v ≤ k) (ltb i k) (k - suc i) k (λ e. omega arith) (λ e. omega arith)
+  -- and so what is told of it
+  pub named_none : (s : Bool) (m : ℕ) → (0 < m → k < m) → named k (signed s m) ≡ Err NoVertex
+  named_none s m h = rw (names_none s m h, le-ltb k k (omega arith))
 
--- ---- a whole number as far as it can name a vertex, or NOT, which no such number is
-module _ (w : List ℕ) {n : ℕ} (e : n ≡ whole_or w) where
-  abbrev counted : ℕ
-  counted = saturated (number (past (minus w) w))
+  pub named_one : (s : Bool) (m : ℕ) → 0 < m → m ≤ k → named k (signed s m) ≡ Ok (cond s (k - m) (m - 1))
+  named_one s m h g = rw (names_one s m h g, lt-ltb (cond s (k - m) (m - 1)) k (by s))
+    where
+      by : (t : Bool) → cond t (k - m) (m - 1) < k
+      by true = omega arith
+      by false = omega arith
 
-  pub is_whole_lem : (n ≡ NOT → ⊥) → (is_whole w ≡ true) × (n ≡ counted)
-  is_whole_lem = there (is_whole w) counted NOT n e
-
-  pub no_whole : n ≡ NOT → is_whole w ≡ false
-  no_whole = lacking (is_whole w) counted NOT n (λ h f. omega (arith, saturated_min (number (past (minus w) w)))) e
-
-  pub whole_test : not (eqb n NOT) ≡ is_whole w
-  whole_test = ⊎_elim (λ f. rw f (sym (no_whole (eqb-true n NOT f)))) (λ f. rw f (sym (is_whole_lem (eqb-false n NOT f)).0)) (decided (eqb n NOT))
-
-pub whole_some : (w : List ℕ) {n : ℕ} → n ≡ whole_or w → (n ≡ NOT → ⊥) → 0 < length w
-whole_some [] e h = absurd (h e)
-whole_some (b ∷ w) e h = omega arith
+-- ---- a whole number
+pub whole_told : (w : List ℕ) → is_some (whole_or w) ≡ is_whole w
+whole_told w = by (is_whole w)
+  where
+    by : (t : Bool) → is_some (cond t (Some (saturated (number (past (minus w) w)))) None) ≡ t
+    by true = refl
+    by false = refl
 
 -- it has no slash
 whole_unparted : (w : List ℕ) → is_whole w ≡ true → parts slash w ≡ w ∷ []
@@ -99,15 +71,22 @@ pub after_is : (t r : List ℕ) → is_after (t ∷ parts slash r) ≡ ((empty t
 after_is t r = alone slash (λ ps. is_after (t ∷ ps)) (λ q s ps. refl) r (λ e. whole_unparted r (and_yes (empty t || is_whole t) (is_whole r) e).1)
 
 -- ---- a corner: its index, whether that is whole, and whether what stands after it is right
-pub cornered : (k : ℕ) (w n : List ℕ) (l : List (List ℕ)) (s t : Bool) → parts slash w ≡ n ∷ l → is_whole n ≡ s → is_after l ≡ t → corner_or k w ≡ cond (s && t) (names k (whole n)) NOT
+pub cornered : (k : ℕ) (w n : List ℕ) (l : List (List ℕ)) (s t : Bool) → parts slash w ≡ n ∷ l → is_whole n ≡ s → is_after l ≡ t
+    → corner_or k w ≡ cond (s && t) (named k (whole n)) (Err NoCorner)
 unfolding is_corner index
-cornered k w n l s t e f g = rw e (ap₂ (λ (x y : Bool). cond (x && y) (names k (whole n)) NOT) f g)
+cornered k w n l s t e f g = rw e (ap₂ (λ (x y : Bool). cond (x && y) (named k (whole n)) (Err NoCorner)) f g)
 
--- a first part that is whole has the text's sign
-pub named_first : (w : List ℕ) (at : ℕ) {n : ℕ} → n ≡ whole_or (take at w) → (n ≡ NOT → ⊥) → (k r : ℕ) → Named n (minus w) k r → r ≡ names k (whole (take at w))
-named_first w at e h k r g =
-    let t = take at w in
-    let m = number (past (minus t) t) in
-    let some : 0 < length t = whole_some t e h in
-    let sign : minus w ≡ minus t = ap (λ b. eqb b 45) (sym (get_or-take at w 0 0 (omega (arith, length-take at w)))) in
-    g m (is_whole_lem t e h).1 ∙ ap (λ b. names k (signed b m)) sign
+-- what a word is as a corner, by the vertex that it names or why it names none
+module _ (k : ℕ) (w : List ℕ) where
+  abbrev pub CornerIs : Result ℕ Unnamed → Type 0
+  CornerIs (Ok v) = (is_corner w ≡ true) × (v ≡ names k (index w)) × (ltb (names k (index w)) k ≡ true)
+  CornerIs (Err NoVertex) = (is_corner w ≡ true) × (ltb (names k (index w)) k ≡ false)
+  CornerIs (Err NoCorner) = is_corner w ≡ false
+
+  pub corner_is : (r : Result ℕ Unnamed) → r ≡ corner_or k w → CornerIs r
+  corner_is r e = subst CornerIs (sym e) (by (is_corner w) (ltb (names k (index w)) k) refl refl)
+    where
+      by : (s t : Bool) → is_corner w ≡ s → ltb (names k (index w)) k ≡ t → CornerIs (cond s (cond t (Ok (names k (index w))) (Err NoVertex)) (Err NoCorner))
+      by true true f g = (f, refl, g)
+      by true false f g = (f, g)
+      by false t f g = f

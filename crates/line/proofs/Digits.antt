@@ -1,32 +1,22 @@
 -- Digits: whether bytes are digits, the number that they say, and one to nine of them. Assumes nothing.
-use mathlib.Core.Path.{◌≡◌, refl, ◌∙◌}
-use mathlib.Core.Bool.{true, false, not, and-false}
+use mathlib.Core.Path.{◌≡◌, refl, sym, ap, ◌∙◌}
+use mathlib.Core.Bool.{Bool, true, false, cond, not, and-true, and-false}
 use mathlib.Core.List.{List, [], ◌∷◌, ◌++◌}
 use Prim.Native.Nat.{ℕ, ◌+◌, ◌*◌, ◌-◌, ◌^◌, ◌≤◌, ◌<◌}
 use native.Mathlib.Omega.{arith}
 use native.Mathlib.Numerals.{add-one}
 use native.Mathlib.Nat.{pow-suc, pow-le-pow_right, mul-le-mul_right}
-use borrow.Author.Tests.{le-leb, lt-leb, leb-true, ne_eqb}
+use borrow.Author.Tests.{le-leb, leb-true, ne_eqb}
 use lib.Dec.{leb, eqb, lit<}
 use lib.ListN.{length, get_or, drop}
 use lib.Seq.{drop-cons}
 use Rattle.whole.proofs.Flag.{and_yes}
 use Rattle.line.specs.Text.{parts}
 use Rattle.line.specs.Number.{digit, all_digits, empty, digits, few, amount, number}
-use Rattle.line.specs.Calls.{NOT}
-use Rattle.line.specs.Steps.{few_or}
-use Rattle.line.proofs.Told.{there, lacking}
+use Rattle.line.specs.Steps.{saturated, number_or, few_or}
+use Rattle.std.proofs.Common.{Option, Some, None}
 
 -- ---- a byte and whether it is a digit
-pub is_digit : (b : ℕ) → 48 ≤ b → b ≤ 57 → digit b ≡ true
-is_digit b h g = rw (le-leb 48 b h, le-leb b 57 g)
-
-pub below_digits : (b : ℕ) → b < 48 → digit b ≡ false
-below_digits b h = rw (lt-leb 48 b h)
-
-pub above_digits : (b : ℕ) → 57 < b → digit b ≡ false
-above_digits b h = rw (lt-leb b 57 h) (and-false (leb 48 b))
-
 digit_range : (b : ℕ) → digit b ≡ true → (48 ≤ b) × (b ≤ 57)
 digit_range b e = let y = and_yes (leb 48 b) (leb b 57) e in (leb-true 48 b y.0, leb-true b 57 y.1)
 
@@ -53,9 +43,6 @@ digits_unparted c h (b ∷ l) e =
     rw (ne_eqb b c (λ f. omega (arith, digit_range b y.0)), digits_unparted c h l y.1)
 
 -- ---- powers of ten
-pub pow_more : (i : ℕ) → 10 * 10 ^ i ≡ 10 ^ (i + 1)
-pow_more i = rw (add-one, pow-suc 10 i) (omega arith)
-
 pub pow_most : (i k : ℕ) → i ≤ k → 10 ^ i ≤ 10 ^ k
 pow_most i k h = pow-le-pow_right (lit< tt) h
 
@@ -84,6 +71,25 @@ number_small (c ∷ b) e =
     let l = mul-le-mul_right (10 ^ length b) d in
     rw (pow-suc 10 (length b), amount_is (10 * 0 + (c - 48)) b) (omega arith)
 
+-- ---- a number in 32 bits
+pub saturated_few : (n : ℕ) → n ≤ 2 ^ 32 - 1 → saturated n ≡ n
+saturated_few n h = omega arith
+
+-- one more digit
+saturated_more : (n d : ℕ) → saturated (10 * saturated n + d) ≡ saturated (10 * n + d)
+saturated_more n d = omega arith
+
+-- what more digits make of it is known from it
+saturated_amount : (n : ℕ) (l : List ℕ) → saturated (amount (saturated n) l) ≡ saturated (amount n l)
+unfolding amount
+saturated_amount n [] = saturated_few (saturated n) (omega arith)
+saturated_amount n (b ∷ l) =
+    let d = b - 48 in
+    sym (saturated_amount (10 * saturated n + d) l) ∙ (ap (λ m. saturated (amount m l)) (saturated_more n d) ∙ saturated_amount (10 * n + d) l)
+
+pub next_saturated : (w : List ℕ) (i : ℕ) → i < length w → (n : ℕ) → saturated (amount n (drop i w)) ≡ saturated (amount (saturated (10 * n + (get_or w i 0 - 48))) (drop (i + 1) w))
+next_saturated w i h n = ap saturated (next_amount w i h n) ∙ sym (saturated_amount (10 * n + (get_or w i 0 - 48)) (drop (i + 1) w))
+
 -- ---- one digit or more
 pub not_empty : (w : List ℕ) → (length w ≡ 0 → ⊥) → empty w ≡ false
 not_empty [] h = absurd (h refl)
@@ -96,16 +102,15 @@ pub digits_no : (w : List ℕ) → all_digits w ≡ false → digits w ≡ false
 digits_no w e = rw e (and-false (not (empty w)))
 
 -- ---- one to nine
-pub few_long : (w : List ℕ) → 9 < length w → few w ≡ false
-few_long w h = rw (lt-leb (length w) 9 h) (and-false (digits w))
-
 pub few_digits : (w : List ℕ) → few w ≡ true → (all_digits w ≡ true) × (length w ≤ 9)
 few_digits w e = let y = and_yes (digits w) (leb (length w) 9) e in ((and_yes (not (empty w)) (all_digits w) y.0).1, leb-true (length w) 9 y.1)
 
--- no number of nine digits is NOT
-module _ (w : List ℕ) (n : ℕ) (e : n ≡ few_or w) where
-  pub is_few : (n ≡ NOT → ⊥) → (few w ≡ true) × (n ≡ number w)
-  is_few = there (few w) (number w) NOT n e
-
-  pub no_few : n ≡ NOT → few w ≡ false
-  no_few = lacking (few w) (number w) NOT n (λ h f. let d = few_digits w h in omega (arith, number_small w d.0, pow_most (length w) 9 d.1)) e
+-- they say a number of 32 bits
+pub few_number : (w : List ℕ) → length w ≤ 9 → number_or w ≡ few_or w
+few_number w h = rw (le-leb (length w) 9 h, and-true (digits w)) (by (digits w) refl)
+  where
+    by : (t : Bool) → digits w ≡ t → ◌≡◌ {A = Option ℕ} (cond t (Some (saturated (number w))) None) (cond t (Some (number w)) None)
+    by true e =
+        let n = number_small w (and_yes (not (empty w)) (all_digits w) e).1 in
+        ap Some (saturated_few (number w) (omega (arith, pow_most (length w) 9 h)))
+    by false e = refl

@@ -1,4 +1,4 @@
--- What a table of vertices has of a decimal (specs/Calls `entry`) is what the intake's words say of its value: whether it is within reach and on the grid is told exactly, by whole numbers. Assumes nothing.
+-- The entry of a decimal (specs/Calls) is what the intake's words say of its value: whether it is within reach and on the grid is told exactly, by whole numbers. Assumes nothing.
 use mathlib.Core.Path.{◌≡◌, refl, sym, ap, ◌∙◌}
 use mathlib.Core.Bool.{Bool, true, false, cond}
 use Prim.Native.Nat.{ℕ, ◌*◌, ◌/◌, ◌%◌, ◌^◌, ◌≤◌}
@@ -14,7 +14,9 @@ use Rattle.whole.proofs.Range.{abs_mul}
 use Rattle.grid.specs.Number.{signed, grid, Within}
 use Rattle.grid.proofs.Value.{minus_⊖, signed_mul, size_within}
 use Rattle.line.specs.Number.{Decimal, value, gridded}
-use Rattle.line.specs.Calls.{BEYOND, OFF, entry}
+use Rattle.std.proofs.Common.{Ok, Err}
+use Rattle.line.specs.declared.Missed.TheVariants.{Beyond, OffGrid}
+use Rattle.line.specs.Calls.{entry}
 use Rattle.line.proofs.Decimals.{signed_size, gridded_small}
 
 -- ---- plus or minus a over d
@@ -54,11 +56,11 @@ module _ (d : Decimal) where
   pub grid_small : Within (value d) → nat_abs (gridded d) ≤ 16384
   grid_small w = gridded_small d (size w)
 
--- ---- what the table has of a decimal, told apart
+-- ---- the entry of a decimal, told apart
 pub data Tells (d : Decimal) : Type 0 where
-  far : entry d ≡ BEYOND → (Within (value d) → ⊥) → Tells d
-  off : entry d ≡ OFF → Within (value d) → (((k : ℤ) × (grid k ≈ value d)) → ⊥) → Tells d
-  on : entry d ≡ gridded d → Within (value d) → grid (gridded d) ≈ value d → Tells d
+  far : entry d ≡ Err Beyond → (Within (value d) → ⊥) → Tells d
+  off : entry d ≡ Err OffGrid → Within (value d) → (((k : ℤ) × (grid k ≈ value d)) → ⊥) → Tells d
+  on : entry d ≡ Ok (gridded d) → Within (value d) → grid (gridded d) ≈ value d → Tells d
 
 pub tells : (d : Decimal) → Tells d
 unfolding entry
@@ -70,7 +72,7 @@ tells d = by (ltb reach d.whole) (eqb left 0) refl refl refl
     left : ℕ
     left = 16 * d.whole % scale d
 
-    by : (t u : Bool) → ltb reach d.whole ≡ t → eqb left 0 ≡ u → entry d ≡ cond t BEYOND (cond u (gridded d) OFF) → Tells d
+    by : (t u : Bool) → ltb reach d.whole ≡ t → eqb left 0 ≡ u → entry d ≡ cond t (Err Beyond) (cond u (Ok (gridded d)) (Err OffGrid)) → Tells d
     by true u h k e = far e (λ w. omega (arith, ltb-true reach d.whole h, size d w))
     by false true h k e = on e (within d (ltb-false reach d.whole h)) (on_grid d (eqb-true left 0 k))
     by false false h k e = off e (within d (ltb-false reach d.whole h)) (λ g. eqb-false left 0 k (no_rest d g.0 g.1))

@@ -1,20 +1,22 @@
 -- The parts of a text, found one after the other. Assumes nothing.
 use mathlib.Core.Path.{◌≡◌, refl, sym, ap, ◌∙◌}
-use mathlib.Core.Bool.{Bool, true, false, cond, or_self}
+use mathlib.Core.Bool.{Bool, true, false, cond}
 use mathlib.Core.Logic.{⊎_elim}
 use mathlib.Core.List.{List, [], ◌∷◌, ◌++◌}
 use Prim.Native.Nat.{ℕ, suc, ◌+◌, ◌-◌, ◌≤◌, ◌<◌}
 use native.Mathlib.Omega.{arith}
 use native.Mathlib.Numerals.{add-one}
 use native.Mathlib.Nat.{sub-zero}
-use borrow.Author.Tests.{eqb-true, eqb-false}
+use borrow.Author.Tests.{eq-eqb, ne_eqb}
 use lib.Dec.{eqb}
 use lib.ListN.{length, get_or, take, drop, length-drop, take-append-drop}
 use lib.Seq.{drop-cons, drop-drop, get_or-take, get_or-drop, length-take-le, take_all}
 use Rattle.whole.proofs.Flag.{decided}
 use Rattle.line.specs.Text.{parts, joined}
 use Rattle.line.specs.Calls.{part, Until}
-use Rattle.line.specs.Steps.{either}
+use Rattle.std.proofs.Common.{Bor, Option, Some, None}
+use Rattle.std.specs.Prelude.{option_copied}
+use Rattle.line.specs.Steps.{others}
 use Rattle.line.proofs.Told.{no}
 
 -- ---- a list from a place on
@@ -116,22 +118,23 @@ module _ (p : ℕ → Bool) (s : List ℕ) (from to : ℕ) (u : Until p s from t
   pub last_part : to ≡ length s → parts p (drop from s) ≡ part from to s ∷ []
   last_part e = ap (parts p) (sym (ap (λ n. part from n s) e ∙ suffix from s)) ∙ unparted p (part from to s) sliced
 
--- the first part, and those after it
-module _ (p : ℕ → Bool) (s : List ℕ) (at : ℕ) (u : Until p s 0 at) where
-  pub only_part : at ≡ length s → parts p s ≡ take at s ∷ []
-  only_part e = rw sub-zero at (last_part p s 0 at u e)
+-- the first part, up to the first byte of one value, and those after it; or the only one
+module _ (at : ℕ) (s : List ℕ) where
+  abbrev is : ℕ → Bool
+  is b = eqb b at
 
-  pub first_part : (at ≡ length s → ⊥) → parts p s ≡ take at s ∷ parts p (drop (at + 1) s)
-  first_part h = let b = u.below in rw add-one (rw sub-zero at (next_part p s 0 at u (omega arith)))
+  pub only_part : ((k : ℕ) → k < length s → get_or s k 0 ≡ at → ⊥) → parts is s ≡ s ∷ []
+  only_part h = unparted is s (λ k g. ne_eqb (get_or s k 0) at (h k g))
 
-  pub begins : (l : List (List ℕ)) × (parts p s ≡ take at s ∷ l)
-  begins = ⊎_elim (λ e. (_, only_part (eqb-true at (length s) e))) (λ e. (_, first_part (eqb-false at (length s) e))) (decided (eqb at (length s)))
+  pub first_part : (i : ℕ) → i < length s → get_or s i 0 ≡ at → ((k : ℕ) → k < i → get_or s k 0 ≡ at → ⊥) → parts is s ≡ take i s ∷ parts is (drop (i + 1) s)
+  first_part i h e none =
+      let u : Until is s 0 i = record { above = omega arith; below = omega arith; none = λ k _ g. ne_eqb (get_or s k 0) at (none k g); at = λ g. eq-eqb (get_or s i 0) at e } in
+      rw add-one (rw sub-zero at (next_part is s 0 i u h))
 
--- one byte twice is that byte
-pub until_one : (a : ℕ) (s : List ℕ) (from to : ℕ) → Until (either a a) s from to → Until (λ c. eqb c a) s from to
-until_one a s from to u = record {
-  above = u.above;
-  below = u.below;
-  none = λ k h g. sym (or_self (eqb (get_or s k 0) a)) ∙ u.none k h g;
-  at = λ h. sym (or_self (eqb (get_or s to 0) a)) ∙ u.at h;
-}
+-- what was cut off is the only part, or the first
+module _ (p : ℕ → Bool) (w a : List ℕ) {r : Option (Bor (List ℕ))} (e : parts p w ≡ a ∷ others p (option_copied r)) where
+  pub cut_none : r ≡ None → parts p w ≡ a ∷ []
+  cut_none f = e ∙ ap (λ s. a ∷ others p (option_copied s)) f
+
+  pub cut_some : (b : Bor (List ℕ)) → r ≡ Some b → parts p w ≡ a ∷ parts p b.now
+  cut_some b f = e ∙ ap (λ s. a ∷ others p (option_copied s)) f

@@ -1,21 +1,25 @@
 -- The words of a line, found one after the other, and whether two are the same. Assumes nothing.
-use mathlib.Core.Path.{◌≡◌, refl, sym, ap, ◌∙◌}
-use mathlib.Core.Bool.{Bool, true, false, cond, not, and-false}
+use mathlib.Core.Path.{◌≡◌, refl, sym, ap, ap₂, subst, ◌∙◌}
+use mathlib.Core.Bool.{Bool, true, false, cond, not, ◌&&◌, ◌||◌, and-false}
 use mathlib.Core.Logic.{⊎_elim}
 use mathlib.Core.List.{List, [], ◌∷◌}
 use Prim.Native.Nat.{ℕ, zero, suc, ◌+◌, ◌*◌, ◌-◌, ◌≤◌, ◌<◌}
 use native.Mathlib.Omega.{arith}
 use native.Mathlib.Nat.{eq-or-lt_of_le}
-use native.Mathlib.Numerals.{add-one}
-use borrow.Author.Tests.{not-true, not-false, le-leb, lt-leb, leb-true, lt-ltb, le-ltb, eqb-true, eq-eqb, ne_eqb}
-use lib.Dec.{eqb, leb, ltb}
-use lib.ListN.{length, get_or, drop, drop_of_length-le}
-use lib.Seq.{drop-cons}
-use Rattle.whole.proofs.Flag.{by_flag, and_yes}
+use borrow.Author.Tests.{not-true, not-false, lt-ltb, le-ltb, eqb-true, eqb-false, eq-eqb, ne_eqb}
+use lib.Dec.{eqb, ltb}
+use lib.ListN.{length, get_or, take, drop, drop_of_length-le, length-drop}
+use lib.Seq.{drop-cons, drop-drop, length-take-le}
+use lib.Pointwise.{pointwise}
+use Rattle.std.proofs.Common.{nat_eq}
+use Rattle.std.specs.List.{list_any}
+use Rattle.whole.proofs.Flag.{decided, and_yes}
 use Rattle.line.specs.Text.{blank, joined, parts, filled, words}
-use Rattle.line.specs.Line.{same}
-use Rattle.line.specs.Calls.{part, Until, words_from, within}
+use Rattle.line.specs.Line.{same, among}
+use Rattle.line.specs.Calls.{part, Until, Word, words_from, within}
+use Rattle.line.specs.Steps.{Taken}
 use Rattle.line.proofs.Told.{no}
+use Rattle.line.proofs.Seek.{shifted}
 use Rattle.line.proofs.Parts.{part_size, some_part, next_part, last_part}
 
 filled_more : (p : List ℕ) (ps : List (List ℕ)) → 0 < length p → filled (p ∷ ps) ≡ p ∷ filled ps
@@ -85,16 +89,68 @@ module _ (line : List ℕ) (at from to : ℕ) (u : Until (λ b. not (blank b)) l
       (λ g. past_blanks line at from u ∙ (next_word line from to v (some_word g) ∙ sym (word_there line from to g)))
       (eq-or-lt_of_le u.below)
 
+  pub word_is : Word line at from to
+  word_is = record { begins = u; ends = v; some = some_word; words = words_from_lem }
+
+-- a line of blanks has no word
+pub no_word : (line : List ℕ) → Until (λ b. not (blank b)) line 0 (length line) → Word line 0 (length line) (length line)
+no_word line u =
+    let v : Until blank line (length line) (length line) = record { above = omega arith; below = omega arith; none = λ k g h. absurd (omega arith); at = λ g. absurd (omega arith) } in
+    word_is line 0 (length line) (length line) u v
+
+-- a word and what stands after it, by the place where it begins and what stands from there on
+pub taken : (line : List ℕ) (from : ℕ) (begun : List ℕ) (len : ℕ) (w after : List ℕ) → from < length line → Until (λ b. not (blank b)) line 0 from → begun ≡ drop from line → Until blank begun 0 len
+    → w ≡ take len begun → after ≡ drop len begun → Taken line w after
+taken line from begun len w after h b e u f g =
+    let l : length w ≡ len = omega (arith, ap length f, length-take-le len begun u.below) in
+    let v : Until blank line from (from + length w) = shifted blank line from 0 len from (from + length w) (omega arith) (omega arith) (omega arith) (subst (λ s. Until blank s 0 len) e u) in
+    let p = word_is line 0 from (from + length w) b v in
+    let m : from + length w - from ≡ len = omega arith in
+    let n : from + len ≡ from + length w = omega arith in
+    record {
+      from = from;
+      place = p;
+      some = let s = p.some h in omega arith;
+      word = rw m (f ∙ ap (take len) e);
+      rest = g ∙ (ap (drop len) e ∙ (drop-drop len from line ∙ ap (λ k. drop k line) n));
+    }
+
+-- its words, by the next and those after it
+pub taken_words : (line w after : List ℕ) → Taken line w after → words line ≡ w ∷ words after
+taken_words line w after t =
+    let p = t.place in let l = p.ends.below in let s = t.some in
+    p.words ∙ (word_there line t.from (t.from + length w) (omega arith) ∙ ap₂ (λ (x y : List ℕ). x ∷ words y) (sym t.word) (sym t.rest))
+
+pub words_none : (line : List ℕ) → Word line 0 (length line) (length line) → words line ≡ []
+words_none line p = p.words ∙ word_gone line (length line) (length line) (omega arith)
+
+-- ---- a word of what stands from a place on
+module _ (line : List ℕ) (at : ℕ) (h : at ≤ length line) where
+  word_shifted : (from to a b : ℕ) → a ≡ at + from → b ≡ at + to → Word (drop at line) 0 from to → Word line at a b
+  word_shifted from to a b e f p =
+      word_is line at a b (shifted (λ b. not (blank b)) line at 0 from at a h (omega arith) e p.begins) (shifted blank line at from to a b h e f p.ends)
+
+  pub no_word_from : Word (drop at line) 0 (length (drop at line)) (length (drop at line)) → Word line at (length line) (length line)
+  no_word_from p = let n = length-drop at line in word_shifted (length (drop at line)) (length (drop at line)) (length line) (length line) (omega arith) (omega arith) p
+
+  pub word_from : (w after : List ℕ) (from to : ℕ) → Taken (drop at line) w after → to ≡ length line - length after → from ≡ to - length w
+      → (from < length line) × Word line at from to × (w ≡ part from to line)
+  word_from w after from to t e f =
+      let s = t.some in
+      let b = t.place.ends.below in
+      let n = length-drop at line in
+      let l : length after ≡ length (drop at line) - (t.from + length w) = ap length t.rest ∙ length-drop (t.from + length w) (drop at line) in
+      let g : from ≡ at + t.from = omega arith in
+      let m : to - from ≡ t.from + length w - t.from = omega arith in (
+        omega arith,
+        word_shifted t.from (t.from + length w) from to g (omega arith) t.place,
+        t.word ∙ (ap₂ (λ (x : ℕ) (y : List ℕ). take x y) (sym m) (drop-drop t.from at line ∙ ap (λ k. drop k line) (sym g))),
+      )
+
 -- ---- a place of a line
 module _ (line : List ℕ) (at : ℕ) where
   pub within_is : at ≤ length line → within line at ≡ at
-  within_is h = rw (le-leb at (length line) h)
-
-  pub within_end : length line < at → within line at ≡ length line
-  within_end h = rw (lt-leb at (length line) h)
-
-  pub within_most : within line at ≤ length line
-  within_most = by_flag (λ n. n ≤ length line) (leb at (length line)) at (length line) (λ e. leb-true at (length line) e) (λ e. omega arith)
+  within_is h = omega arith
 
 -- ---- the length of a line, from its words
 -- the bytes of parts, and one for each
@@ -134,22 +190,30 @@ same_is [] (c ∷ v) e = cc
 same_is (b ∷ w) [] e = cc
 same_is (b ∷ w) (c ∷ v) e = let h = and_yes (eqb b c) (same w v) e in let p = eqb-true b c h.0 in let q = same_is w v h.1 in cc
 
-pub other_length : (w v : List ℕ) → (length w ≡ length v → ⊥) → same w v ≡ false
+-- of two bytes either may stand first
+eqb_turned : (b c : ℕ) → eqb b c ≡ eqb c b
+eqb_turned b c = ⊎_elim (λ e. e ∙ sym (eq-eqb c b (sym (eqb-true b c e)))) (λ e. e ∙ sym (ne_eqb c b (λ f. eqb-false b c e (sym f)))) (decided (eqb b c))
+
+same_is_pointwise : (w v : List ℕ) → same w v ≡ pointwise nat_eq v w
 unfolding same
-other_length [] [] h = absurd (h refl)
-other_length [] (c ∷ v) h = refl
-other_length (b ∷ w) [] h = refl
-other_length (b ∷ w) (c ∷ v) h = rw (other_length w v (λ e. h (ap suc e))) (and-false (eqb b c))
+same_is_pointwise [] [] = refl
+same_is_pointwise [] (c ∷ v) = refl
+same_is_pointwise (b ∷ w) [] = refl
+same_is_pointwise (b ∷ w) (c ∷ v) = ap₂ (λ (x y : Bool). x && y) (eqb_turned b c) (same_is_pointwise w v)
 
-module _ (w v : List ℕ) (i : ℕ) where
-  pub same_end : length w ≤ i → length v ≤ i → same (drop i w) (drop i v) ≡ true
-  unfolding same
-  same_end h g = rw (drop_of_length-le w h, drop_of_length-le v g)
+pub among_is : (w : List ℕ) (vs : List (List ℕ)) → among w vs ≡ list_any (λ v. pointwise nat_eq v w) vs
+unfolding among
+among_is w [] = refl
+among_is w (v ∷ vs) = ap₂ (λ (x y : Bool). x || y) (same_is_pointwise w v) (among_is w vs)
 
-  pub same_byte : i < length w → i < length v → get_or w i 0 ≡ get_or v i 0 → same (drop i w) (drop i v) ≡ same (drop (i + 1) w) (drop (i + 1) v)
-  unfolding same
-  same_byte h g e = rw (add-one, drop-cons w i 0 h, drop-cons v i 0 g, eq-eqb (get_or w i 0) (get_or v i 0) e)
+-- ---- a word of one byte
+pub one_byte : (w : List ℕ) (b : ℕ) → length w ≡ 1 → get_or w 0 0 ≡ b → w ≡ b ∷ []
+one_byte [] b l e = absurd (omega arith)
+one_byte (c ∷ []) b l e = cc
+one_byte (c ∷ (d ∷ w)) b l e = absurd (omega arith)
 
-  pub other_byte : i < length w → i < length v → (get_or w i 0 ≡ get_or v i 0 → ⊥) → same (drop i w) (drop i v) ≡ false
-  unfolding same
-  other_byte h g e = rw (drop-cons w i 0 h, drop-cons v i 0 g, ne_eqb (get_or w i 0) (get_or v i 0) e)
+pub other_byte : (w : List ℕ) (b : ℕ) → (length w ≡ 1 → get_or w 0 0 ≡ b → ⊥) → same w (b ∷ []) ≡ false
+unfolding same
+other_byte [] b h = refl
+other_byte (c ∷ []) b h = rw (ne_eqb c b (h refl))
+other_byte (c ∷ (d ∷ w)) b h = and-false (eqb c b)

@@ -12,7 +12,8 @@ use Rattle.line.specs.Number.{Decimal, gridded, is_corner, index}
 use Rattle.line.specs.Line.{Line, passed, other, vertex, face, names, all_named}
 
 -- ---- a line
--- a decimal's grid number, or what keeps it from the grid: one whose size is more than 1,024 is out of reach; one is on the grid where sixteen times it is whole. That the intake's `Within` and `grid` say so of its value: proofs/Exact `tells`
+-- a decimal's grid number, or what keeps it from the grid: one whose size is more than 1,024 is out of reach; one is on the grid where sixteen times it is whole.
+-- That the intake's `Within` and `grid` say so of its value: proofs/Exact `tells`
 unfoldable pub entry : Decimal → Result ℤ Missed
 entry d = cond (ltb (1024 * 10 ^ d.places) d.whole) (Err Beyond) (cond (eqb (16 * d.whole % 10 ^ d.places) 0) (Ok (gridded d)) (Err OffGrid))
 

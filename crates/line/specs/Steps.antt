@@ -5,6 +5,8 @@ use Rattle.grid.specs.Number.{signed}
 use Rattle.line.specs.declared.Missed.{Missed}
 use Rattle.line.specs.declared.Unnamed.{Unnamed}
 use Rattle.line.specs.declared.Vertex.{Vertex}
+use Rattle.line.specs.declared.Said.{Said}
+use Rattle.line.specs.declared.Said.TheVariants as says
 use Rattle.line.specs.Text.{point, parts}
 use Rattle.line.specs.Number.{Decimal, is_pointed, pointed, turned, number, digit, few, digits, minus, past, is_decimal, decimal, is_whole}
 use Rattle.line.specs.Calls.{part, Word, named, entry}
@@ -71,3 +73,7 @@ vertex_or (x ∷ []) = None
 vertex_or (x ∷ (y ∷ [])) = None
 vertex_or (x ∷ (y ∷ (z ∷ []))) = cond (is_decimal x && (is_decimal y && is_decimal z)) (Some (record { x = entry (decimal x); y = entry (turned (decimal z)) })) None
 vertex_or (x ∷ (y ∷ (z ∷ (w ∷ ws)))) = None
+
+abbrev pub vertex_says : Option Vertex → Said
+vertex_says None = says.Other
+vertex_says (Some v) = says.Vertex v

@@ -9,7 +9,11 @@ use crate::text::cut;
 fn digit(b: u8) -> Option<u32>
     ensures { result ≡ digit_or b }
 {
-    if b.is_ascii_digit() { Some((b - b'0') as u32) } else { None }
+    if b.is_ascii_digit() {
+        Some((b - b'0') as u32)
+    } else {
+        None
+    }
 }
 
 // The number that digits say, or the largest of 32 bits where it is above that.
@@ -27,6 +31,7 @@ pub(crate) fn number(w: &[u8]) -> Option<u32>
 }
 
 // The number that one to nine digits say.
+#[tactic(auto, using(crate::proofs::Digits::few_number))]
 fn few(w: &[u8]) -> Option<u32>
     ensures { result ≡ few_or w.now }
 {

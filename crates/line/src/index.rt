@@ -37,7 +37,11 @@ fn named(n: u32, minus: bool, above: u16) -> Result<usize, Unnamed>
     if n == 0 || n > above as u32 {
         return Err(Unnamed::NoVertex);
     }
-    Ok(if minus { above as usize - n as usize } else { n as usize - 1 })
+    Ok(if minus {
+        above as usize - n as usize
+    } else {
+        n as usize - 1
+    })
 }
 
 // The vertex that a corner names.
@@ -51,6 +55,6 @@ pub(crate) fn corner(w: &[u8], above: u16) -> Result<usize, Unnamed>
             return Err(Unnamed::NoCorner);
         }
     }
-    let minus = w[0] == b'-';
+    let minus = index[0] == b'-';
     named(n, minus, above)
 }

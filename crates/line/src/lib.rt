@@ -4,7 +4,7 @@
 
 ghost use Rattle.std.specs.Prelude.{◌≡◌};
 ghost use Rattle.line.specs.Text.{words};
-ghost use Rattle.line.specs.Line.{face_line, line_of};
+ghost use Rattle.line.specs.Line.{among, passed_words, face_line, line_of};
 ghost use Rattle.line.specs.Calls.{said_of, Next};
 ghost use Rattle.line.specs.Steps.{vertex_or};
 
@@ -99,6 +99,16 @@ fn read_face(line: &[u8], above: u16) -> Said
     Said::Face(all)
 }
 
+// What a line that is passed over begins with.
+const PASSED: [&[u8]; 7] = [b"o", b"g", b"s", b"vn", b"vt", b"usemtl", b"mtllib"];
+
+// Whether a line that begins with this word is passed over.
+fn is_passed(w: &[u8]) -> bool
+    ensures { result ≡ among w.now passed_words }
+{
+    PASSED.contains(&w)
+}
+
 // A line, with so many vertices above it.
 pub fn read_line(line: &[u8], above: u16) -> Said
     ensures { result ≡ said_of above (line_of line.now) }
@@ -115,7 +125,10 @@ pub fn read_line(line: &[u8], above: u16) -> Said
             None => Said::Other,
         },
         b"f" => read_face(rest, above),
-        b"o" | b"g" | b"s" | b"vn" | b"vt" | b"usemtl" | b"mtllib" => Said::Passed,
-        _ => Said::Other,
+        _ => if is_passed(first) {
+            Said::Passed
+        } else {
+            Said::Other
+        },
     }
 }

@@ -14,13 +14,14 @@ fn is_blank(b: u8) -> bool
 pub(crate) fn word(line: &[u8]) -> Option<(&[u8], &[u8])>
     ensures { NextWord line.now result }
 {
-    let from = line.iter().take_while(|&&b| is_blank(b)).count();
-    if from == line.len() {
+    let Some(from) = line.iter().position(|&b| !is_blank(b)) else {
         return None;
-    }
+    };
     let begun = &line[from..];
-    let len = begun.iter().take_while(|&&b| !is_blank(b)).count();
-    Some((&begun[..len], &begun[len..]))
+    match begun.iter().position(|&b| is_blank(b)) {
+        Some(len) => Some((&begun[..len], &begun[len..])),
+        None => Some((begun, &[])),
+    }
 }
 
 // A text up to the first byte that parts it, and what stands past that, if there is one.

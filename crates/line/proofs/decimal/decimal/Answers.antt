@@ -1,24 +1,42 @@
 -- `line::decimal::decimal` meets its contract: its sign, if there is one, and what stands past it. Assumes nothing.
-use mathlib.Core.Path.{sym, ◌∙◌}
-use mir.Syntax.{w32}
-use Rattle.whole.proofs.Range.{read}
+use mathlib.Core.Path.{◌≡◌, refl, sym, ◌∙◌}
+use mathlib.Core.Bool.{true, false}
+use mathlib.Core.List.{List, [], ◌∷◌}
+use Prim.Native.Nat.{ℕ, ◌<◌}
+use native.Mathlib.Omega.{arith}
+use lib.ListN.{length}
+use Rattle.std.proofs.Common.{rules}
+use Rattle.line.specs.Number.{minus, plus}
 use Rattle.line.proofs.Parts.{suffix}
-use Rattle.line.proofs.Decimals.{no_text, minus_entry, plus_entry, plain_entry}
+use Rattle.line.proofs.Decimals.{minus_entry, plus_entry, plain_entry}
 use Rattle.line.proofs.decimal.decimal.Goals as goal
+use Rattle.line.proofs.decimal.decimal.Goals.{in_default-via-then-w-lt1, in_default-via-else-w-lt1+in_default-1}
 
-pub returns-then-w-eq0 : goal.returns-then-w-eq0
-returns-then-w-eq0 c = sym (no_text c.args.turn c.args.w.now c.if-w-eq0.true)
-
-pub returns-then-sign-eq45 : goal.returns-then-sign-eq45
-returns-then-sign-eq45 c =
+pub returns-in-45 : goal.returns-in-45
+returns-in-45 c =
     let w = c.args.w.now in
-    read w32 c.unsigned.type_inv c.unsigned.ensures ∙ (rw (suffix 1 w) (sym (minus_entry c.args.turn w c.if-sign-eq45.true)))
+    let e : minus w ≡ true = search rules in
+    c.unsigned.ensures ∙ (rw (suffix 1 w) (sym (minus_entry c.args.turn w e)))
 
-pub returns-then-sign-eq43 : goal.returns-then-sign-eq43
-returns-then-sign-eq43 c =
+pub returns-in-43 : goal.returns-in-43
+returns-in-43 c =
     let w = c.args.w.now in
-    let u = c.unsigned-then-sign-eq43 in
-    read w32 u.type_inv u.ensures ∙ (rw (suffix 1 w) (sym (plus_entry c.args.turn w c.if-sign-eq43.true)))
+    let e : minus w ≡ false = search rules in
+    let f : plus w ≡ true = search rules in
+    c.unsigned-in-43.ensures ∙ (rw (suffix 1 w) (sym (plus_entry c.args.turn w e f)))
 
-pub returns : goal.returns
-returns c = read w32 c.unsigned-2.type_inv c.unsigned-2.ensures ∙ sym (plain_entry c.args.turn c.args.w.now c.if-sign-eq45.false c.if-sign-eq43.false)
+-- no byte is no sign
+unsigned : (w : List ℕ) → length w < 1 → (minus w ≡ false) × (plus w ≡ false)
+unsigned [] h = (refl, refl)
+unsigned (b ∷ w) h = absurd (omega arith)
+
+pub returns-in_default : goal.returns-in_default
+returns-in_default c =
+    let w = c.args.w.now in
+    let s : (minus w ≡ false) × (plus w ≡ false) =
+    elim c.in_default.branch [
+      | in_default-via-then-w-lt1 v ↦ unsigned w (search rules)
+      | in_default-via-else-w-lt1+in_default-1 v ↦ (search rules, search rules)
+    ]
+    in
+    c.unsigned-in_default.ensures ∙ sym (plain_entry c.args.turn w s.0 s.1)

@@ -1,5 +1,5 @@
 -- `line::decimal::grid_of` meets its contract: within reach and on the grid nothing is above 16,384. Assumes nothing.
-use mathlib.Core.Path.{◌≡◌, sym, ◌∙◌}
+use mathlib.Core.Path.{◌≡◌, sym, ap, ◌∙◌}
 use mathlib.Core.Bool.{Bool, true, false, cond}
 use Prim.Native.Nat.{ℕ, ◌+◌, ◌*◌, ◌/◌, ◌%◌, ◌≤◌, ◌<◌}
 use native.Mathlib.Omega.{arith}
@@ -11,7 +11,9 @@ use mir.Val.{SFits, to_z}
 use mir.Facts.{to_z-of_z}
 use Rattle.whole.proofs.Range.{fits, field, abs_neg}
 use Rattle.grid.specs.Number.{signed}
-use Rattle.line.specs.Calls.{BEYOND, OFF}
+use Rattle.std.proofs.Common.{Result, Ok, Err}
+use Rattle.line.specs.declared.Missed.{Missed}
+use Rattle.line.specs.declared.Missed.TheVariants.{Beyond, OffGrid}
 use Rattle.line.specs.Steps.{Entered}
 use Rattle.line.proofs.Decimals.{grid_small, entered}
 use Rattle.line.proofs.decimal.grid_of.Goals as goal
@@ -31,18 +33,18 @@ module _ (minus : Bool) (whole part scale : ℕ) (below : part < scale) where
   abbrev number : ℕ
   number = 16 * whole + 16 * part / scale
 
-  abbrev Answer : ℤ → Type 0
+  abbrev Answer : Result ℤ Missed → Type 0
   Answer = Entered minus (whole * scale + part) scale
 
-  answer_beyond : far ≡ true → Answer BEYOND
-  answer_beyond f = entered whole part scale below minus BEYOND (rw f)
+  answer_beyond : far ≡ true → Answer (Err Beyond)
+  answer_beyond f = entered whole part scale below minus (Err Beyond) (rw f)
 
-  answer_off : far ≡ false → (16 * part % scale ≡ 0 → ⊥) → Answer OFF
-  answer_off f g = entered whole part scale below minus OFF (rw (f, ne_eqb (16 * part % scale) 0 g))
+  answer_off : far ≡ false → (16 * part % scale ≡ 0 → ⊥) → Answer (Err OffGrid)
+  answer_off f g = entered whole part scale below minus (Err OffGrid) (rw (f, ne_eqb (16 * part % scale) 0 g))
 
   -- on the grid
-  on : far ≡ false → 16 * part % scale ≡ 0 → (e : ℤ) → e ≡ signed minus number → Answer e
-  on f g e h = entered whole part scale below minus e (rw (f, eq-eqb (16 * part % scale) 0 g) h)
+  on : far ≡ false → 16 * part % scale ≡ 0 → (e : ℤ) → e ≡ signed minus number → Answer (Ok e)
+  on f g e h = entered whole part scale below minus (Ok e) (rw (f, eq-eqb (16 * part % scale) 0 g) (ap Ok h))
 
   small : far ≡ false → number ≤ 16384
   small f = grid_small whole part scale below f

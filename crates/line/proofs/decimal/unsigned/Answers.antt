@@ -2,45 +2,31 @@
 use mathlib.Core.Path.{◌≡◌, refl, sym, ap, ◌∙◌}
 use mathlib.Core.Bool.{true}
 use mathlib.Core.List.{List}
-use Prim.Native.Nat.{ℕ, ◌+◌, ◌*◌, ◌-◌, ◌^◌, ◌≤◌, ◌<◌}
+use Prim.Native.Nat.{ℕ, ◌+◌, ◌*◌, ◌^◌, ◌≤◌, ◌<◌}
 use native.Mathlib.Omega.{arith}
-use lib.ListN.{length, take, drop}
-use mir.Syntax.{w32}
-use Rattle.whole.proofs.Range.{read}
+use lib.ListN.{length}
+use Rattle.std.proofs.Common.{Some}
+use Rattle.line.specs.Text.{point}
 use Rattle.line.specs.Number.{few, number}
 use Rattle.line.specs.Calls.{entry}
-use Rattle.line.specs.Steps.{few_or}
-use Rattle.line.proofs.Parts.{suffix, until_one}
-use Rattle.line.proofs.Digits.{pow_most, number_small, few_digits, is_few, no_few}
-use Rattle.line.proofs.Decimals.{no_before, before_entry, no_after, after_entry}
+use Rattle.line.proofs.Told.{given, missing}
+use Rattle.line.proofs.Parts.{cut_none, cut_some}
+use Rattle.line.proofs.Digits.{pow_most, number_small, few_digits}
+use Rattle.line.proofs.Decimals.{first_entry, no_second, both_entry}
 use Rattle.line.proofs.decimal.unsigned.Goals as goal
 
-pub returns-then-whole : goal.returns-then-whole
-returns-then-whole c =
-    let w = c.args.w.now in
-    let at = c.until-at.result in
-    sym (no_before w at (until_one 46 w 0 at c.until-at.ensures) c.args.minus (no_few (take at w) _ c.few-whole.ensures c.if-whole.true))
+pub returns-in-None : goal.returns-in-None
+returns-in-None c =
+    let m = c.args.minus in
+    let f = given _ _ _ c.in_ok-n.ensures in
+    let e : c.in_ok-n.n * 1 + 0 ≡ number c.cut.result.0.now = omega (arith, f.1) in
+    ap Some (c.grid_of.ensures 0 refl ∙ ap (λ n. entry (record { negative = m; whole = n; places = 0 })) e)
+    ∙ sym (first_entry m c.args.w.now _ (cut_none point _ _ c.cut.ensures c.in-None.is) f.0)
 
-pub returns-then-at-w : goal.returns-then-at-w
-returns-then-at-w c =
-    let w = c.args.w.now in
-    let at = c.until-at.result in
-    let minus = c.args.minus in
-    let f = is_few (take at w) c.few-whole.result c.few-whole.ensures c.if-whole.false in
-    let e : c.few-whole.result * 1 + 0 ≡ number (take at w) = omega arith in
-    read w32 c.grid_of.type_inv (c.grid_of.ensures 0 refl)
-    ∙ (ap (λ n. entry (record { negative = minus; whole = n; places = 0 })) e ∙ sym (before_entry w at (until_one 46 w 0 at c.until-at.ensures) minus c.if-at-w.true f.0))
-
--- what was read after the point
-answered : (w : List ℕ) (from n : ℕ) → n ≡ few_or (take (length w - from) (drop from w)) → n ≡ few_or (drop from w)
-answered w from n e = e ∙ ap few_or (suffix from w)
-
-pub returns-then-n : goal.returns-then-n
-returns-then-n c =
-    let w = c.args.w.now in
-    let at = c.until-at.result in
-    let after = drop (at + 1) w in
-    sym (no_after w at (until_one 46 w 0 at c.until-at.ensures) c.args.minus c.if-at-w.false (no_few after _ (answered w (at + 1) _ c.few-n.ensures) c.if-n.true))
+pub returns-in_err-few-in-Some : goal.returns-in_err-few-in-Some
+returns-in_err-few-in-Some c =
+    c.from_residual-in_err-few-in-Some.ensures
+    ∙ sym (no_second c.args.minus c.args.w.now _ _ (cut_some point _ _ c.cut.ensures _ c.in-Some.is) (missing _ _ c.in_err-few-in-Some.ensures))
 
 -- digits say a number that is below its power of ten
 below_power : (b : List ℕ) (n p : ℕ) → (few b ≡ true) × (n ≡ number b) → p ≡ 10 ^ length b → (n < p) × (p ≤ 1000000000)
@@ -50,28 +36,18 @@ below_power b n p f e =
     let k = pow_most (length b) 9 d.1 in
     (omega arith, omega arith)
 
-scale_is : (w : List ℕ) (from p : ℕ) → p ≡ 10 ^ length (take (length w - from) (drop from w)) → p ≡ 10 ^ length (drop from w)
-scale_is w from p e = e ∙ ap (λ l. 10 ^ length l) (suffix from w)
-
-pub grid_of-requires-2 : goal.grid_of-requires-2
-grid_of-requires-2 c =
-    let w = c.args.w.now in
-    let from = c.until-at.result + 1 in
-    let b = drop from w in
-    below_power b _ _ (is_few b c.few-n.result (answered w from _ c.few-n.ensures) c.if-n.false) (scale_is w from _ c.power.ensures)
+pub grid_of-requires-in-Some : goal.grid_of-requires-in-Some
+grid_of-requires-in-Some c = below_power c.in-Some.part.now _ _ (given _ _ _ c.in_ok-few-in-Some.ensures) c.pow.ensures
 
 whole_is : {a b s t p q : ℕ} → a ≡ b → s ≡ t → p ≡ q → a * s + p ≡ b * t + q
 whole_is e f g = cc
 
-pub returns : goal.returns
-returns c =
-    let w = c.args.w.now in
-    let at = c.until-at.result in
-    let minus = c.args.minus in
-    let b = drop (at + 1) w in
-    let f = is_few (take at w) c.few-whole.result c.few-whole.ensures c.if-whole.false in
-    let g = is_few b c.few-n.result (answered w (at + 1) _ c.few-n.ensures) c.if-n.false in
-    let k = scale_is w (at + 1) _ c.power.ensures in
-    let e = whole_is f.1 k g.1 in
-    read w32 c.grid_of-2.type_inv (c.grid_of-2.ensures (length b) k)
-    ∙ (ap (λ n. entry (record { negative = minus; whole = n; places = length b })) e ∙ sym (after_entry w at (until_one 46 w 0 at c.until-at.ensures) minus c.if-at-w.false f.0 g.0))
+pub returns-in_ok-few-in-Some : goal.returns-in_ok-few-in-Some
+returns-in_ok-few-in-Some c =
+    let m = c.args.minus in
+    let b = c.in-Some.part.now in
+    let f = given _ _ _ c.in_ok-n.ensures in
+    let g = given _ _ _ c.in_ok-few-in-Some.ensures in
+    let e = whole_is f.1 c.pow.ensures g.1 in
+    ap Some (c.grid_of-in-Some.ensures (length b) c.pow.ensures ∙ ap (λ n. entry (record { negative = m; whole = n; places = length b })) e)
+    ∙ sym (both_entry m c.args.w.now _ b (cut_some point _ _ c.cut.ensures _ c.in-Some.is) f.0 g.0)
