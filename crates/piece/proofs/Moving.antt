@@ -20,7 +20,7 @@ use Rattle.decide.proofs.Span.{Proper, begin, end, first_mark_lem}
 use Rattle.decide.specs.Span.{Span, raise, lower, none, clip, some, first}
 use Rattle.piece.specs.declared.span.Span as declared
 use Rattle.piece.specs.Seen.{span_of}
-use Rattle.piece.specs.Sizes.{Sized, Tame, Bounds, Slope, MarkSteps}
+use Rattle.piece.specs.Sizes.{Sized, Tame, Bounds}
 use Rattle.piece.proofs.Steps.{word, back}
 
 -- a moment before another that is not after 4,096 ticks
@@ -74,18 +74,6 @@ module _ (N D : ℕ) (s : Span) (h : Tame N D s) where
       (λ e. tame_lower a (neg_ℤ b) (turn_lt b (lt_true _ _ e)) k.base (rw (abs_neg b) k.slope))
       (λ e. by_flag (Tame N D) (lt_z a (pos 0)) _ _ (λ e. tame_none i j) (λ e. h)))
 
-  pub wider : (N' D' : ℕ) → N ≤ N' → D ≤ D' → Tame N' D' s
-  wider N' D' i j = record {
-    begin = h.begin;
-    end = h.end;
-    low = h.low;
-    high = h.high;
-    low_n = omega (arith, h.low_n);
-    low_d = omega (arith, h.low_d);
-    high_n = omega (arith, h.high_n);
-    high_d = omega (arith, h.high_d);
-  }
-
 -- what holds of every span of the code
 abbrev pub Small : Span → Type 0
 Small = Tame 8589934592 67108864
@@ -101,9 +89,6 @@ small_of s = record {
   high_n = s.high.sized.num;
   high_d = s.high.sized.den;
 }
-
-pub small_clip : (s : Span) (a b : ℤ) → Small s → Slope a b → Small (clip s a b)
-small_clip s a b h k = tame_clip _ _ s h a b (omega arith) (omega arith) k
 
 -- ---- what fits
 tame_fits : (x y : ℤ) → nat_abs x ≤ 8589934592 → nat_abs y ≤ 67108864 → SFits w64 (x *ℤ y)
@@ -173,10 +158,3 @@ module _ (s : Span) (h : Small s) (e : some s ≡ true) where
 
   pub mark_below : first s < NONE
   mark_below = omega (arith, mark_most)
-
-  pub mark_steps : MarkSteps s.low_n s.low_d
-  mark_steps = record {
-    scaled = fits w64 _ (omega (arith, abs_mul_le (pos 256) s.low_n 256 8589934592 (omega arith) h.low_n));
-    divisor = parts.nonzero w64;
-    all = fits w64 _ (omega (arith, mark_most));
-  }

@@ -6,7 +6,7 @@ use Prim.Native.Nat.{ℕ, ◌≤◌, ◌<◌}
 use native.Mathlib.Omega.{arith}
 use lib.IntN.{ℤ, nat_abs, ◌-ℤ◌, ◌*ℤ◌}
 use mir.Syntax.{w64}
-use mir.Val.{SFits, to_z, of_z}
+use mir.Val.{to_z, of_z}
 use mir.Facts.{to_z-of_z}
 use Rattle.whole.proofs.Range.{fits, abs_sub, abs_mul_le}
 use Rattle.rules.specs.Ring.{Pt, times, ring, next, to}
@@ -14,7 +14,7 @@ use Rattle.rules.proofs.Ring.{next_below}
 use Rattle.decide.specs.Side.{side_of}
 use Rattle.decide.specs.Touch.{least, most, ranged}
 use Rattle.footprint.specs.Steps.{CrossSteps}
-use Rattle.footprint.proofs.Steps.{fit, reach_abs, Broad, cross_steps}
+use Rattle.footprint.proofs.Steps.{reach_abs, Broad, cross_steps}
 use Rattle.good.specs.Numbers.{pt}
 use Rattle.piece.specs.Sizes.{Far, Close, Held}
 
@@ -40,15 +40,6 @@ scaled : (d z : ℤ) → nat_abs d ≤ 510 → nat_abs z ≤ 16384 → nat_abs (
 scaled d z h k = abs_mul_le d z 510 16384 h k
 
 module _ (d : ℤ) (p : Pt) (h : nat_abs d ≤ 510) (k : Close p) where
-  pub times_x : SFits w64 (word d *ℤ word p.x)
-  times_x = rw (back d (omega arith), back p.x (omega (arith, k.x))) (fit (d *ℤ p.x) (omega (arith, scaled d p.x h k.x)))
-
-  pub times_y : SFits w64 (word d *ℤ word p.y)
-  times_y = rw (back d (omega arith), back p.y (omega (arith, k.y))) (fit (d *ℤ p.y) (omega (arith, scaled d p.y h k.y)))
-
-  pub times_far : Far (times d p)
-  times_far = record { x = omega (arith, scaled d p.x h k.x); y = omega (arith, scaled d p.y h k.y) }
-
   pub times_back : pt (word (word d *ℤ word p.x)) (word (word d *ℤ word p.y)) ≡ times d p
   times_back =
       rw (back d (omega arith), back p.x (omega (arith, k.x)), back p.y (omega (arith, k.y)), back (d *ℤ p.x) (omega (arith, scaled d p.x h k.x)), back (d *ℤ p.y) (omega (arith, scaled d p.y h k.y)))

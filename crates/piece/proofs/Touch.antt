@@ -1,12 +1,11 @@
 -- What a motion and an edge within reach give is small. Assumes nothing.
 use mathlib.Core.Path.{◌≡◌, ◌∙◌}
 use mathlib.Core.Bool.{true, false}
-use Prim.Native.Nat.{ℕ, ◌+◌, ◌*◌, ◌/◌, ◌%◌, ◌≤◌}
+use Prim.Native.Nat.{ℕ, ◌≤◌}
 use native.Mathlib.Omega.{arith}
 use lib.Dec.{le→leb}
-use lib.IntN.{ℤ, pos, negsuc, neg_ℤ, nat_abs, ◌+ℤ◌, ◌-ℤ◌, ◌*ℤ◌}
-use lib.ListN.{length}
-use mir.Syntax.{w32, w64}
+use lib.IntN.{ℤ, pos, neg_ℤ, nat_abs, ◌+ℤ◌, ◌-ℤ◌, ◌*ℤ◌}
+use mir.Syntax.{w64}
 use mir.Val.{SFits}
 use Rattle.whole.proofs.Range.{abs_by, abs_add, abs_sub, abs_mul_le, abs_neg}
 use Rattle.rules.specs.Reach.{Speed, Run, Piece}
@@ -17,7 +16,7 @@ use Rattle.decide.specs.Span.{Span, ticks, some, first}
 use Rattle.rules.specs.Verdict.{NONE}
 use Rattle.decide.proofs.Place.{least_of, most_of}
 use Rattle.decide.specs.Touch.{least, most, swing, across, same_side, within, on_edge, touch, touches, band_span, start_point, over, point_of, motion, place, contact, first_mark}
-use Rattle.piece.specs.Sizes.{Close, Slow, Flat, Held, Level, Tame, Bounds, Slope, AlongSteps}
+use Rattle.piece.specs.Sizes.{Close, Slow, Flat, Level, Tame, Bounds, Slope, AlongSteps}
 use Rattle.piece.proofs.Steps.{word, back, gap_back}
 use Rattle.footprint.specs.Steps.{CrossSteps}
 use Rattle.footprint.proofs.Steps.{fit, reach_abs, product, cross_most, cross_steps}
@@ -122,14 +121,6 @@ module _ (p w : Pt) (s : Span) (a b : Pt) where
   unfolding touch
   touch_none e f = rw (e, f)
 
--- ---- plain numbers
-wide32 : (z : ℤ) → SFits w32 z → nat_abs z ≤ 2147483648
-wide32 (pos n) h = let l = h.sfits in omega (arith, l)
-wide32 (negsuc n) h = let l = h.sfits in omega (arith, l)
-
-pub gap_fits : (a b : ℤ) → SFits w32 a → SFits w32 b → SFits w64 (a -ℤ b)
-gap_fits a b h k = fit (a -ℤ b) (omega (arith, abs_sub a b, wide32 a h, wide32 b k))
-
 -- ---- the band
 pub tame_ticks : (t : ℕ) → t ≤ 4096 → Tame 32768 510 (ticks (pos t))
 tame_ticks t h = record {
@@ -200,10 +191,6 @@ module _ (r : Ring) (p w : Pt) (s : Span) where
 speed_abs : (z : ℤ) → Speed z → nat_abs z ≤ 255
 speed_abs z h = abs_by 255 z h.above h.below
 
--- the list of a good piece
-half : (n : ℕ) → n % 2 ≡ 0 → n ≡ 2 * (n / 2)
-half n h = omega (arith, h)
-
 module _ (r : Run) (k : Piece) (h : RunKnown r) (g : PieceKnown k) where
   pub level : Level r k
   level = record {
@@ -222,10 +209,4 @@ module _ (r : Run) (k : Piece) (h : RunKnown r) (g : PieceKnown k) where
   motion_slow = record {
     x = omega (arith, abs_sub r.speed.x k.speed.x, speed_abs r.speed.x (h 3 (omega arith)), speed_abs k.speed.x (g.band 2 (omega arith)));
     y = omega (arith, abs_sub r.speed.y k.speed.y, speed_abs r.speed.y (h 4 (omega arith)), speed_abs k.speed.y (g.band 3 (omega arith)));
-  }
-
-  pub corners_held : Held k.corners
-  corners_held = let e = half (length k.corners) g.sized.even in record {
-    holds = record { corners = g.sized.corners; whole = e };
-    corners = λ j l. record { below = l; x = g.corners (2 * j) (omega (arith, l, e)); y = g.corners (2 * j + 1) (omega (arith, l, e)) };
   }

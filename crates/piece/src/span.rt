@@ -45,6 +45,7 @@ impl Span {
     ghost use Rattle.piece.specs.Seen.{span_of};
 
     // Not before t.
+    #[tactic(auto, unfolding(decide::specs::Span::raise))]
     fn raise(self, t: Moment) -> Span
         ensures { span_of result ≡ raise (span_of self) t.n t.d }
     {
@@ -58,6 +59,7 @@ impl Span {
     }
 
     // Not after t.
+    #[tactic(auto, unfolding(decide::specs::Span::lower))]
     fn lower(self, t: Moment) -> Span
         ensures { span_of result ≡ lower (span_of self) t.n t.d }
     {
@@ -71,6 +73,7 @@ impl Span {
     }
 
     // No moment at all.
+    #[tactic(auto, unfolding(decide::specs::Span::none))]
     fn none(self) -> Span
         ensures { span_of result ≡ none (span_of self) }
     {

@@ -21,7 +21,8 @@ unfolding band_span
 band_alone r b l = refl
 
 -- the point, the motion and the span of a run and a piece
-coded : (r : Run) (k : Piece) (p w : Pt) (s : Span) (o : Option ℕ) → p ≡ point_of r → w ≡ motion r k → s ≡ band_span r k → Marks o (first_mark (ring k.corners) p w s) → Marks o (code r k)
+coded : (r : Run) (k : Piece) (p w : Pt) (s : Span) (o : Option ℕ) → p ≡ point_of r → w ≡ motion r k → s ≡ band_span r k
+    → Marks o (first_mark (ring k.corners) p w s) → Marks o (code r k)
 unfolding code
 coded r k p w s o e f g m = rw (e, f, g) at m
 
