@@ -1,11 +1,12 @@
 -- What the run and the room were found to be decides which text answers. Assumes nothing.
-use mathlib.Core.Path.{◌≡◌, sym, ap, ◌∙◌}
+use mathlib.Core.Path.{◌≡◌, sym, ap, subst, ◌∙◌}
 use mathlib.Core.Logic.{⊎_elim}
 use mathlib.Core.List.{List, [], ◌∷◌, ◌++◌}
-use Prim.Native.Nat.{ℕ, ◌-◌, ◌≤◌}
+use Prim.Native.Nat.{ℕ, ◌-◌, ◌≤◌, ◌<◌}
 use native.Mathlib.Omega.{arith}
-use lib.ListN.{length, take, drop, length-take, length-drop}
+use lib.ListN.{length, get_or, take, drop, length-take, length-drop}
 use lib.Seq.{take_all}
+use Rattle.std.proofs.lemmas.List.{get_or-take, length-take-le}
 use Rattle.rules.specs.Reach.{Run}
 use Rattle.rules.specs.Refusal.{Refusal, Passes, Fault, demand, refuse, in_block}
 use Rattle.rules.specs.Good.{run_checks}
@@ -13,7 +14,7 @@ use Rattle.rules.proofs.Checks.{fault_past, fault_within, passes_left, passes_ri
 use Rattle.rules.proofs.Good.{definite_run}
 use Rattle.room.specs.Image.{count, room_checks}
 use Rattle.room.proofs.Images.{few_pieces}
-use Rattle.room.specs.Verdicts.{verdicts_checks, Filled}
+use Rattle.room.specs.Verdicts.{verdicts_checks, CodeOf, Filled}
 use Rattle.io.specs.Counts.{IsPrefixLen}
 use Rattle.print.specs.Put.{Puts}
 use Rattle.shade.specs.Text.{page, length_checks, room_part, Page}
@@ -43,8 +44,21 @@ module _ (r : Run) (image list after : List ℕ) (n : ℕ) (f : Filled r image l
   pub few : n ≤ 126
   few = omega (arith, f.pieces, few_pieces image room_passes)
 
-pub printed : (r : Run) (input list after : List ℕ) (n : ℕ) → Filled r (room_part input) list after n → Page r input (page after n)
-printed r input list after n f = record { room = room_passes r (room_part input) list after n f; codes = after; each = f.verdicts; text = ap (page after) f.pieces }
+-- the first n of them are the room's, and no later element is printed
+module _ (r : Run) (input list after : List ℕ) (n : ℕ) (f : Filled r (room_part input) list after n) (long : n ≤ length after) where
+  pub codes_long : length (take n after) ≡ n
+  codes_long = length-take-le n after long
+
+  each : (i : ℕ) → i < count (room_part input) → CodeOf r (room_part input) i (get_or (take n after) i 0)
+  each i h = subst (CodeOf r (room_part input) i) (sym (get_or-take n after i 0 (omega (arith, h, f.pieces)))) (f.verdicts i h)
+
+  pub printed : let codes = take n after in Page r input (page codes (length codes))
+  printed = let codes = take n after in record {
+    room = room_passes r (room_part input) list after n f;
+    codes = codes;
+    each = each;
+    text = ap (page codes) (codes_long ∙ f.pieces);
+  }
 
 -- ---- a short text is put whole, and is counted
 module _ {before text after : List ℕ} {n : ℕ} (p : Puts before 0 text after n) where

@@ -14,17 +14,12 @@ use refusal::Refusal;
 use room::verdicts;
 use seal::SIZE;
 
+#[tactic(auto, unfolding(crate::specs::Text::length_checks))]
 fn check_length(input: &[u8]) -> Result<(), Refusal>
     ensures { Finds (length_checks input.now) result }
 {
     let n = input.len();
-    if n % SIZE != 0 {
-        return Err(Refusal::Length);
-    }
-    if n < 1024 {
-        return Err(Refusal::Length);
-    }
-    if 65536 < n {
+    if n % SIZE != 0 || n < 1024 || 65536 < n {
         return Err(Refusal::Length);
     }
     Ok(())
@@ -36,10 +31,9 @@ fn answer_room(run: Run, input: &[u8], out: &mut [u8]) -> usize
     ensures { Prints input.now out.old out.new result }
 {
     let mut codes = [0u32; MOST];
-    let counted = verdicts(run, &input[SIZE..], &mut codes);
-    match counted {
+    match verdicts(run, &input[SIZE..], &mut codes) {
+        Ok(n) => put_page(out, &codes[..n]),
         Err(x) => room_line(out, x.refusal, x.block),
-        Ok(n) => put_page(out, &codes, n),
     }
 }
 
@@ -48,10 +42,9 @@ fn answer_blocks(input: &[u8], out: &mut [u8]) -> usize
     requires { (6328 ≤ length out.old) × Whole input.now }
     ensures { Prints input.now out.old out.new result }
 {
-    let read = read_run(&input[..SIZE]);
-    match read {
-        Err(x) => run_line(out, x),
+    match read_run(&input[..SIZE]) {
         Ok(run) => answer_room(run, input, out),
+        Err(x) => run_line(out, x),
     }
 }
 
@@ -60,9 +53,8 @@ pub(crate) fn answer(input: &[u8], out: &mut [u8]) -> usize
     ensures prints { Prints input.now out.old out.new result }
     ensures prefix_len { IsPrefixLen result out.new }
 {
-    let checked = check_length(input);
-    match checked {
-        Err(x) => room_line(out, x, 0),
+    match check_length(input) {
         Ok(()) => answer_blocks(input, out),
+        Err(x) => room_line(out, x, 0),
     }
 }

@@ -27,28 +27,24 @@ fn piece_line(out: &mut [u8], at: usize, i: usize, code: u32) -> usize
     put_byte(out, end, b'\n')
 }
 
-// The lines of the first n pieces.
-fn piece_lines(out: &mut [u8], at: usize, codes: &[u32], n: usize) -> usize
-    requires { n ≤ length codes.now }
-    ensures puts { Puts out.old at (piece_lines codes.now n) out.new result }
-    ensures upper_bound { result ≤ at + 50 * n }
+// A line for each piece.
+fn piece_lines(out: &mut [u8], at: usize, codes: &[u32]) -> usize
+    ensures puts { Puts out.old at (piece_lines codes.now (length codes.now)) out.new result }
+    ensures upper_bound { result ≤ at + 50 * length codes.now }
 {
     let mut next = at;
-    let mut i = 0;
-    while i < n {
-        next = piece_line(out, next, i, codes[i]);
-        i += 1;
+    for (i, code) in codes.iter().enumerate() {
+        next = piece_line(out, next, i, *code);
     }
     next
 }
 
 // The piece count, and a line for each piece.
-pub(crate) fn put_page(out: &mut [u8], codes: &[u32], n: usize) -> usize
-    requires { n ≤ length codes.now }
-    ensures puts { Puts out.old 0 (page codes.now n) out.new result }
-    ensures upper_bound { result ≤ 28 + 50 * n }
+pub(crate) fn put_page(out: &mut [u8], codes: &[u32]) -> usize
+    ensures puts { Puts out.old 0 (page codes.now (length codes.now)) out.new result }
+    ensures upper_bound { result ≤ 28 + 50 * length codes.now }
 {
-    let count = put_field(out, 0, b"pieces ", n);
+    let count = put_field(out, 0, b"pieces ", codes.len());
     let lines = put_byte(out, count, b'\n');
-    piece_lines(out, lines, codes, n)
+    piece_lines(out, lines, codes)
 }

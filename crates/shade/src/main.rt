@@ -11,6 +11,7 @@ use std::io;
 use std::io::Read;
 
 // Reads until the buffer is full or the input ends, and answers how many bytes it put at the buffer's begin.
+// By hand: read_exact tells no length of a shorter input, and read_to_end wants the heap.
 fn read_full<R: Read>(reader: &mut R, buf: &mut [u8]) -> io::Result<usize>
     ensures { IfOk result (λ n. IsPrefixLen n buf.new) }
 {

@@ -7,11 +7,11 @@ use Rattle.shade.proofs.answer.answer.Goals as goal
 
 pub answer_blocks-requires : goal.answer_blocks-requires
 unfolding length_checks
-answer_blocks-requires c = (c.requires, c.in-Good.ensures.0)
+answer_blocks-requires c = (c.requires, c.in-Ok.ensures.0)
 
-pub returns-in-Refused-clause-prints : goal.returns-in-Refused-clause-prints
-returns-in-Refused-clause-prints c =
-    let f = c.in-Refused.ensures in
+pub returns-in-Err-clause-prints : goal.returns-in-Err-clause-prints
+returns-in-Err-clause-prints c =
+    let f = c.in-Err.ensures in
     let p = c.room_line.ensures.puts in
     record {
       text = _;

@@ -7,12 +7,12 @@ use Rattle.shade.proofs.answer.answer_blocks.Goals as goal
 pub slice_bounds-read_run-end : goal.slice_bounds-read_run-end
 slice_bounds-read_run-end c = omega (arith, length-take 512 c.args.input.now)
 
-pub returns-in-NoRun : goal.returns-in-NoRun
-returns-in-NoRun c =
+pub returns-in-Err : goal.returns-in-Err
+returns-in-Err c =
     let p = c.run_line.ensures.puts in
     record {
       text = _;
-      answers = bad_run c.requires.1 _ c.in-NoRun.ensures refl;
+      answers = bad_run c.requires.1 _ c.in-Err.ensures refl;
       room = whole p (omega (arith, c.run_line.ensures.upper_bound)) c.requires.0;
       puts = p;
     }

@@ -6,10 +6,10 @@ use Rattle.shade.proofs.line.piece_lines.Goals as goal
 
 pub loop-i-init : goal.loop-i-init
 unfolding piece_lines
-loop-i-init c = (omega arith, omega arith, none c.args.out.now c.args.at (omega arith))
+loop-i-init c = (omega arith, none c.args.out.now c.args.at (omega arith))
 
 pub loop-i-preserved : goal.loop-i-preserved
 unfolding piece_lines
 loop-i-preserved c =
     let line = c.piece_line-next.ensures in
-    (omega arith, omega (arith, line.upper_bound), rw (add-one c.loop-i.i) (then c.loop-i.invariant.2 line.puts))
+    (omega (arith, line.upper_bound), rw (add-one c.loop-i.i) (then c.loop-i.invariant.1 line.puts))
