@@ -20,7 +20,7 @@ use Rattle.line.specs.Number.{gridded}
 use Rattle.line.specs.Line.{Point}
 use Rattle.obj.specs.File.{LastFace, none, drawn, face_in, lines_checks, points_checks, corners, corners_checks, face_checks, obj_checks, ObjSays}
 use Rattle.obj.specs.Steps.{Gathered, draw_checks, Draws}
-use Rattle.obj.proofs.Table.{flat_size}
+use Rattle.obj.proofs.Points.{flat_size}
 
 -- how many lines, their checks, and the face
 abbrev count : List ℕ → ℕ

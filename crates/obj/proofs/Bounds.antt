@@ -1,25 +1,20 @@
 -- A file has few lines, and its face few corners: none more than its bytes and one. Assumes nothing.
 use mathlib.Core.Path.{◌≡◌, refl, ap, ◌∙◌}
 use mathlib.Core.List.{List, [], ◌∷◌}
-use Prim.Native.Nat.{ℕ, zero, suc, ◌-◌, ◌≤◌}
+use Prim.Native.Nat.{ℕ, zero, suc, ◌≤◌}
 use native.Mathlib.Omega.{arith}
-use lib.Dec.{eqb}
 use lib.IntN.{ℤ}
-use lib.ListN.{length, get_or, take, length-map, length-take}
-use Rattle.whole.proofs.Flag.{by_flag}
-use Rattle.line.specs.Text.{feed, parts, unreturned, ended, lines}
+use lib.ListN.{length, get_or, length-map}
+use Rattle.line.specs.Text.{feed, parts, ended, lines}
 use Rattle.line.specs.Number.{index}
 use Rattle.line.specs.Line.{Point, Line, passed, other, vertex, face}
 use Rattle.obj.specs.File.{line_at, above, points, drawn, faced, face_in}
 use Rattle.line.proofs.Told.{no}
 use Rattle.line.proofs.Words.{size, parts_size, words_length}
 use Rattle.line.proofs.Says.{face_words}
+use Rattle.obj.proofs.Lines.{unreturned_size}
 
 -- ---- lines
-unreturned_size : (l : List ℕ) → length (unreturned l) ≤ length l
-unfolding unreturned
-unreturned_size l = by_flag (λ m. length m ≤ length l) (eqb (get_or l (length l - 1) 0) 13) (take (length l - 1) l) l (λ e. omega (arith, length-take (length l - 1) l)) (λ e. omega arith)
-
 ended_size : (ps : List (List ℕ)) → size (ended ps) ≤ size ps
 unfolding ended
 ended_size [] = omega arith
@@ -59,4 +54,6 @@ face_few file (suc n) ps e = by (line_at file n) refl (face_few file n ps) e
     by passed q h f = h f
     by other q h f = h f
     by (vertex p) q h f = h f
-    by (face ns) q h f = let d : points (above file n) ns ≡ ps = cc in omega (arith, points_few file n (above file n) ns q, ap length d)
+    by (face ns) q h f =
+        let vs = above file n in let d : points vs ns ≡ ps = cc in
+        omega (arith, points_few file n vs ns q, ap length d)

@@ -1,5 +1,4 @@
 -- The corners of a face one after the other: what the checks find, and what the list holds. Assumes nothing.
-use Rattle.std.specs.Prelude.{Ok, Err}
 use mathlib.Core.Path.{◌≡◌, refl, sym, ap, ◌∙◌}
 use mathlib.Core.Bool.{true}
 use mathlib.Core.Logic.{⊎_elim}
@@ -11,26 +10,26 @@ use borrow.Author.Tests.{lt-ltb, le-ltb, ltb-true}
 use lib.Dec.{ltb}
 use lib.IntN.{ℤ, pos}
 use lib.ListN.{length, get_or, drop, length-set, length-map}
+use Rattle.std.proofs.Common.{Option, Some, None, IsSome, Ok, Err, IsOk}
 use Rattle.whole.proofs.Order.{ℕ_or}
 use Rattle.whole.proofs.Flag.{and_yes, by_flag}
 use Rattle.rules.specs.Refusal.{Passes, in_turn}
-use Rattle.rules.proofs.Checks.{passes_append, passes_left, passes_right, in_turn_fault}
-use Rattle.refusal.specs.Said.{said, Finds}
+use Rattle.rules.proofs.Checks.{passes_append, in_turn_fault}
+use Rattle.refusal.specs.Said.{said}
 use Rattle.refusal.specs.declared.Refusal.{Refusal}
-use Rattle.refusal.specs.Said.{Checked}
 use Rattle.line.specs.Number.{gridded, is_corner, index}
 use Rattle.line.specs.declared.Corner.{Corner}
 use Rattle.line.specs.Text.{words}
 use Rattle.line.specs.Line.{Point, face, line_of, all_corners, names, all_named}
-use Rattle.obj.specs.File.{nowhere, points, decimal_checks, point_checks, points_checks, corners}
-use Rattle.line.specs.Calls.{part, words_from, Word, Next, corner_or, entry}
-use Rattle.obj.specs.Steps.{Tabled, FitBoth, kept, Drafted, Gather}
+use Rattle.line.specs.Calls.{part, Word, Next}
 use Rattle.line.proofs.Told.{no}
 use Rattle.line.proofs.Parts.{drop_some, drop_none}
-use Rattle.line.proofs.Words.{within_is, word_there, word_gone, words_after}
-use Rattle.obj.proofs.Exact.{entry_grid}
+use Rattle.line.proofs.Words.{within_is, word_there, word_gone}
 use Rattle.line.proofs.Says.{face_words}
-use Rattle.obj.proofs.Table.{At, point_stored, tabled_at}
+use Rattle.obj.specs.declared.table.Entry.{Entry}
+use Rattle.obj.specs.File.{nowhere, points, point_checks, points_checks, corners}
+use Rattle.obj.specs.Steps.{blank, entered, Tabled, FitBoth, kept, Drafted, Gather}
+use Rattle.obj.proofs.Points.{point_stored}
 
 -- ---- word i of a face: a corner, whose index names a vertex
 word_named : (k : ℕ) (ws : List (List ℕ)) (i : ℕ) (w : List ℕ) (rest : List (List ℕ)) → drop i ws ≡ w ∷ rest
@@ -69,79 +68,73 @@ part_none : (ps : List Point) (list : List ℤ) → Part ps 0 list
 unfolding in_turn
 part_none ps list = record { passes = tt; numbers = λ j h k. absurd (omega arith) }
 
-module _ (ps : List Point) (i : ℕ) (list : List ℤ) (x y : ℤ) (h : i < length ps) (size : length list ≡ 128) (part : Part ps i list) where
+module _ (ps : List Point) (i : ℕ) (list : List ℤ) (h : i < length ps) (size : length list ≡ 128) (part : Part ps i list) where
   abbrev p : Point
   p = get_or ps i nowhere
 
-  keeps : x ≡ gridded p.x → y ≡ gridded p.y → (j : ℕ) → j < 2 * (i + 1) → j < 128 → get_or (kept x y i list) j (pos 0) ≡ get_or (corners ps) j (pos 0)
-  keeps e f j g l =
+  keeps : (x y : ℤ) → x ≡ gridded p.x → y ≡ gridded p.y → (j : ℕ) → j < 2 * (i + 1) → j < 128 → get_or (kept x y i list) j (pos 0) ≡ get_or (corners ps) j (pos 0)
+  keeps x y e f j g l =
       ⊎_elim
       (λ (q : 64 ≤ i). rw (le-ltb i 64 q) (part.numbers j (omega arith) l))
       (λ (q : i < 64). rw (lt-ltb i 64 q) (point_stored gridded ps i h list (omega arith) x y e f (λ k m. part.numbers k m (omega arith)) j g))
       (ℕ_or 64 i)
 
-  part_more : x ≡ entry p.x → y ≡ entry p.y → Passes (point_checks ps i) → Part ps (i + 1) (kept x y i list)
+  part_more : (x y : ℤ) → x ≡ gridded p.x → y ≡ gridded p.y → Passes (point_checks ps i) → Part ps (i + 1) (kept x y i list)
   unfolding in_turn
-  part_more e f c =
-      let a = passes_left (decimal_checks p.x i 0) (decimal_checks p.y i 1) c in
-      let b = passes_right (decimal_checks p.x i 0) (decimal_checks p.y i 1) c in
-      record {
-        passes = rw (add-one i) (passes_append (points_checks ps i) (point_checks ps i) part.passes c);
-        numbers = keeps (e ∙ entry_grid p.x i 0 a) (f ∙ entry_grid p.y i 1 b);
-      }
+  part_more x y e f c = record { passes = rw (add-one i) (passes_append (points_checks ps i) (point_checks ps i) part.passes c); numbers = keeps x y e f }
 
 kept_size : (x y : ℤ) (i : ℕ) (list : List ℤ) → length (kept x y i list) ≡ length list
 kept_size x y i list = by_flag (λ l. length l ≡ length list) (ltb i 64) _ list (λ e. simp length-set) (λ e. refl)
 
--- ---- the face's words from a place on: i corners are passed, and the next names v
-pub record Gathering (line : List ℕ) (k : ℕ) (table list : List ℤ) (from to v i : ℕ) : Type 0 where
-  pub order : from ≤ to
-  pub below : to ≤ length line
-  pub some : from < length line → from < to
-  pub vertex : v ≡ corner_or k (part from to line)
-  pub number : i ≤ from
+-- ---- the face's words from a place on, where i corners are passed
+pub record Gathering (line : List ℕ) (k : ℕ) (table : List Entry) (list : List ℤ) (at i : ℕ) : Type 0 where
+  pub below : at ≤ length line
+  pub number : i ≤ at
   pub size : length list ≡ 128
-  pub fits : 2 * k ≤ length table
+  pub fits : k ≤ length table
   pub all : List (List ℕ)
   pub count : i ≤ length all
   pub face : line_of line ≡ face (map index all)
   pub corners : all_corners all ≡ true
   pub named : all_named k (map index all) ≡ true
-  pub rest : drop i all ≡ words_from line from to
+  pub rest : drop i all ≡ words (drop at line)
   pub part : (vs : List Point) → k ≡ length vs → Tabled vs table → Part (points vs (map index all)) i list
 
--- a place within the line is looked at as it is
-word_at : (line : List ℕ) (at k : ℕ) (r : Corner) → at ≤ length line → Next line at k r → Word line at r.from r.to
-word_at line at k r h n = rw (within_is line at h) at n.word
+-- a face begins with a word
+module _ (line : List ℕ) (k : ℕ) (table : List Entry) (d : Drafted line k table) where
+  pub begins : (r : Option Corner) → Next line 0 k r → IsSome r
+  begins (Some c) n = refl
+  begins None n =
+      let f = face_words line d.indices d.says in
+      let w = rw (within_is line 0 (omega arith)) at n.words in
+      no (cc (f.1, w, word_gone line (length line) (length line) (omega arith)))
 
-pub gather_start : (line : List ℕ) (k : ℕ) (table list : List ℤ) (f g : Corner) → Drafted line k table list → Next line 0 k f → Next line f.to k g
-    → Gathering line k table list g.from g.to g.vertex 0
-gather_start line k table list f g d m n =
-    let w = face_words line d.indices d.says in
-    let u = word_at line 0 k f (omega arith) m in
-    let v = word_at line f.to k g u.ends.below n in
-    record {
-      order = v.ends.above;
-      below = v.ends.below;
-      some = v.some;
-      vertex = n.vertex;
-      number = omega arith;
-      size = d.size;
-      fits = d.fits;
-      all = w.0;
-      count = omega arith;
-      face = d.says ∙ ap face w.3;
-      corners = w.2;
-      named = rw w.3 at d.named;
-      rest = words_after line f.from f.to _ w.0 (sym u.words ∙ w.1) ∙ v.words;
-      part = λ vs q t. part_none _ list;
-    }
+  pub gather_start : (list : List ℤ) (c : Corner) → length list ≡ 128 → Next line 0 k (Some c) → Gathering line k table list c.to 0
+  gather_start list c size n =
+      let f = face_words line d.indices d.says in
+      let w = rw (within_is line 0 (omega arith)) at n.word.words in
+      let h = word_there line c.from c.to n.some in
+      let e : d.indices ≡ map index f.0 = f.3 in
+      record {
+        below = n.word.ends.below;
+        number = omega arith;
+        size = size;
+        fits = d.fits;
+        all = f.0;
+        count = omega arith;
+        face = d.says ∙ ap face e;
+        corners = f.2;
+        named = rw e at d.named;
+        rest = let q = f.1 in cc;
+        part = λ vs q t. part_none _ list;
+      }
 
-module _ (line : List ℕ) (k : ℕ) (table list : List ℤ) (from to v i : ℕ) (g : Gathering line k table list from to v i) where
+module _ (line : List ℕ) (k : ℕ) (table : List Entry) (list : List ℤ) (at i : ℕ) (g : Gathering line k table list at i) where
   -- all are passed
-  pub gather_end : length line ≤ from → Gather line k table list (Ok i)
-  gather_end h vs ns q e t =
-      let l = drop_none g.all i (g.rest ∙ word_gone line from to h) in
+  pub gather_end : Next line at k None → Gather line k table list (Ok i)
+  gather_end n vs ns q e t =
+      let w = rw (within_is line at g.below) at n.words in
+      let l = drop_none g.all i (g.rest ∙ (w ∙ word_gone line (length line) (length line) (omega arith))) in
       let m : ns ≡ map index g.all = let d = g.face in cc in
       let z = points_size vs g.all in
       let p = g.part vs q t in
@@ -154,64 +147,68 @@ module _ (line : List ℕ) (k : ℕ) (table list : List ℤ) (from to v i : ℕ)
       }
 
   -- the corner at hand
-  module _ (h : from < length line) where
+  module _ (c : Corner) (n : Next line at k (Some c)) where
     abbrev w : List ℕ
-    w = part from to line
+    w = part c.from c.to line
 
-    hand : drop i g.all ≡ w ∷ words (drop to line)
-    hand = g.rest ∙ word_there line from to h
+    place : Word line at c.from c.to
+    place = rw (within_is line at g.below) at n.word
 
-    next : (drop (suc i) g.all ≡ words (drop to line)) × (i < length g.all)
-    next = let d = drop_some g.all i [] w (words (drop to line)) hand in (d.1, d.2)
+    hand : drop i g.all ≡ w ∷ words (drop c.to line)
+    hand = g.rest ∙ (place.words ∙ word_there line c.from c.to n.some)
+
+    next : (drop (suc i) g.all ≡ words (drop c.to line)) × (i < length g.all)
+    next = let d = drop_some g.all i [] w (words (drop c.to line)) hand in (d.1, d.2)
 
     corner : (is_corner w ≡ true) × (names k (index w) < k)
-    corner = word_named k g.all i w (words (drop to line)) hand g.corners g.named
+    corner = word_named k g.all i w (words (drop c.to line)) hand g.corners g.named
 
-    names_it : v ≡ names k (index w)
-    names_it = g.vertex ∙ rw corner.0
+    names_it : c.vertex ≡ Ok (names k (index w))
+    names_it = n.vertex ∙ rw (corner.0, lt-ltb (names k (index w)) k corner.1)
 
-    pub corner_below : v < k
-    corner_below = rw names_it corner.1
+    pub is_ok_vertex : IsOk c.vertex
+    is_ok_vertex = rw names_it
 
-    -- the points that the face names among some vertices, and the one at hand
-    module _ (vs : List Point) (q : k ≡ length vs) (t : Tabled vs table) where
-      abbrev ps : List Point
-      ps = points vs (map index g.all)
+    module _ (v : ℕ) (is : c.vertex ≡ Ok v) where
+      it : v ≡ names k (index w)
+      it = let e = names_it in cc
 
-      within : i < length ps
-      within = let l = next.1 in let z = points_size vs g.all in omega arith
+      pub corner_below : v < length table
+      corner_below = let b = corner.1 in let f = g.fits in let e = it in omega arith
 
-      point_is : get_or ps i nowhere ≡ get_or vs v nowhere
-      point_is = word_point vs g.all i w (words (drop to line)) hand ∙ ap (λ j. get_or vs j nowhere) (ap (λ n. names n (index w)) (sym q) ∙ sym names_it)
+      -- the points that the face names among some vertices, and the one at hand
+      module _ (vs : List Point) (q : k ≡ length vs) (t : Tabled vs table) where
+        abbrev ps : List Point
+        ps = points vs (map index g.all)
 
-      numbers : At entry table v (get_or ps i nowhere)
-      numbers = let b = corner_below in rw point_is (tabled_at vs table v (omega arith) t)
+        within : i < length ps
+        within = let l = next.1 in let z = points_size vs g.all in omega arith
 
-    module _ (x y : ℤ) (a : x ≡ get_or table (2 * v) (pos 0)) (b : y ≡ get_or table (2 * v + 1) (pos 0)) where
-      -- what its two numbers tell
-      fits : (r : Checked) → FitBoth x y i r → (vs : List Point) (q : k ≡ length vs) (t : Tabled vs table) → Finds (point_checks (ps vs q t) i) r
-      fits r f vs q t = let n = numbers vs q t in f (get_or (ps vs q t) i nowhere) (a ∙ n.0) (b ∙ n.1)
+        point_is : get_or ps i nowhere ≡ get_or vs v nowhere
+        point_is = word_point vs g.all i w (words (drop c.to line)) hand ∙ ap (λ j. get_or vs j nowhere) (ap (λ n. names n (index w)) (sym q) ∙ sym it)
+
+        entry_is : get_or table v blank ≡ entered (get_or ps i nowhere)
+        entry_is = let b = corner.1 in let e = it in t v (omega arith) ∙ ap entered (sym point_is)
 
       -- it is refused
-      pub gather_fault : (r : Refusal) → FitBoth x y i (Err r) → Gather line k table list (Err r)
+      pub gather_fault : (r : Refusal) → FitBoth (get_or table v blank) i (Err r) → Gather line k table list (Err r)
       gather_fault r f vs ns q e t =
           let m : ns ≡ map index g.all = let d = g.face in cc in
           let l = ps vs q t in
-          rw m (in_turn_fault (point_checks l) (said r) i (length l) (within vs q t) (g.part vs q t).passes (fits (Err r) f vs q t))
+          rw m (in_turn_fault (point_checks l) (said r) i (length l) (within vs q t) (g.part vs q t).passes (f (get_or l i nowhere) (entry_is vs q t)))
 
-      kept_part : FitBoth x y i (Ok tt) → (vs : List Point) (q : k ≡ length vs) (t : Tabled vs table) → Part (ps vs q t) (i + 1) (kept x y i list)
-      kept_part f vs q t = let n = numbers vs q t in part_more (ps vs q t) i list x y (within vs q t) g.size (g.part vs q t) (a ∙ n.0) (b ∙ n.1) (fits (Ok tt) f vs q t)
+      kept_part : (x y : ℤ) → FitBoth (get_or table v blank) i (Ok (x, y)) → (vs : List Point) (q : k ≡ length vs) (t : Tabled vs table) → Part (ps vs q t) (i + 1) (kept x y i list)
+      kept_part x y f vs q t =
+          let l = ps vs q t in
+          let told = f (get_or l i nowhere) (entry_is vs q t) in
+          part_more l i list (within vs q t) g.size (g.part vs q t) x y (ap (λ (n : ℤ × ℤ). n.0) told.1) (ap (λ (n : ℤ × ℤ). n.1) told.1) told.0
 
       -- it is kept
-      pub gather_next : (r : Corner) → Next line to k r → FitBoth x y i (Ok tt) → Gathering line k table (kept x y i list) r.from r.to r.vertex (i + 1)
-      gather_next r m f =
-          let u = word_at line to k r g.below m in
-          let n = g.number in let s = g.some h in let o = u.begins.above in let c = next.1 in
+      pub gather_next : (x y : ℤ) → FitBoth (get_or table v blank) i (Ok (x, y)) → Gathering line k table (kept x y i list) c.to (i + 1)
+      gather_next x y f =
+          let m = g.number in let o = place.begins.above in let s = place.some n.some in let l = next.1 in
           record {
-            order = u.ends.above;
-            below = u.ends.below;
-            some = u.some;
-            vertex = m.vertex;
+            below = place.ends.below;
             number = omega arith;
             size = kept_size x y i list ∙ g.size;
             fits = g.fits;
@@ -220,6 +217,6 @@ module _ (line : List ℕ) (k : ℕ) (table list : List ℤ) (from to v i : ℕ)
             face = g.face;
             corners = g.corners;
             named = g.named;
-            rest = rw (add-one i) (next.0 ∙ u.words);
-            part = kept_part f;
+            rest = rw (add-one i) next.0;
+            part = kept_part x y f;
           }

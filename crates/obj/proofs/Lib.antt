@@ -1,6 +1,6 @@
 pub mod Lines
 pub mod Exact
-pub mod Table
+pub mod Points
 pub mod Seen
 pub mod Gather
 pub mod Answer

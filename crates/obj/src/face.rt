@@ -1,34 +1,42 @@
 // The corners of the face, from its line and the table.
-ghost use Rattle.std.specs.Prelude.{◌≡◌, length};
-ghost use Rattle.obj.specs.Steps.{Fit, FitBoth, kept, Drafted, Gather};
+ghost use Rattle.std.specs.Prelude.{◌≡◌};
+ghost use Rattle.obj.specs.Steps.{missing, Fit, FitBoth, kept, Drafted, Gather};
 
-use line::{BEYOND, OFF, next_corner};
+use crate::table::Entry;
+use line::{Missed, next_corner};
 use refusal::Refusal;
 
-// 12 and 13 of a number of the table.
-fn fit(entry: i32, corner: usize, axis: usize) -> Result<(), Refusal>
-    ensures { Fit entry corner axis result }
+// 12 or 13.
+fn refused(missed: Missed, corner: usize, axis: usize) -> Refusal
+    ensures { result ≡ missing missed corner axis }
 {
-    if entry == BEYOND {
-        return Err(Refusal::Beyond(corner, axis));
+    match missed {
+        Missed::Beyond => Refusal::Beyond(corner, axis),
+        Missed::OffGrid => Refusal::OffGrid(corner, axis),
     }
-    if entry == OFF {
-        return Err(Refusal::OffGrid(corner, axis));
+}
+
+// A grid number of the table, or its refusal.
+fn fit(n: Result<i16, Missed>, corner: usize, axis: usize) -> Result<i32, Refusal>
+    ensures { Fit n corner axis result }
+{
+    match n {
+        Ok(k) => Ok(i32::from(k)),
+        Err(missed) => Err(refused(missed, corner, axis)),
     }
-    Ok(())
 }
 
 // And of a corner, x before y.
-fn fit_both(x: i32, y: i32, corner: usize) -> Result<(), Refusal>
-    ensures { FitBoth x y corner result }
+fn fit_both(at: Entry, corner: usize) -> Result<(i32, i32), Refusal>
+    ensures { FitBoth at corner result }
 {
-    fit(x, corner, 0)?;
-    fit(y, corner, 1)
+    let x = fit(at.x, corner, 0)?;
+    let y = fit(at.y, corner, 1)?;
+    Ok((x, y))
 }
 
 // A corner's numbers into their places; a footprint has 64 corners at most.
-fn keep(x: i32, y: i32, i: usize, numbers: &mut [i32])
-    requires { length numbers.old ≡ 128 }
+fn keep(x: i32, y: i32, i: usize, numbers: &mut [i32; 128])
     ensures { numbers.new ≡ kept x y i numbers.old }
 {
     if i < 64 {
@@ -41,27 +49,20 @@ fn keep(x: i32, y: i32, i: usize, numbers: &mut [i32])
 pub(crate) fn gather(
     line: &[u8],
     above: u16,
-    table: &[i32],
-    numbers: &mut [i32],
+    table: &[Entry],
+    numbers: &mut [i32; 128],
 ) -> Result<usize, Refusal>
-    requires { Drafted line.now above table.now numbers.old }
+    requires { Drafted line.now above table.now }
     ensures { Gather line.now above table.now numbers.new result }
 {
-    let face = next_corner(line, 0, above);
-    let first = next_corner(line, face.to, above);
-    let mut from = first.from;
-    let mut to = first.to;
-    let mut v = first.vertex;
+    // the first word is f, and every other a corner that names a vertex
+    let mut at = next_corner(line, 0, above).unwrap().to;
     let mut i = 0;
-    while from < line.len() {
-        let x = table[2 * v];
-        let y = table[2 * v + 1];
-        fit_both(x, y, i)?;
+    while let Some(corner) = next_corner(line, at, above) {
+        let v = corner.vertex.unwrap();
+        let (x, y) = fit_both(table[v], i)?;
         keep(x, y, i, numbers);
-        let next = next_corner(line, to, above);
-        from = next.from;
-        to = next.to;
-        v = next.vertex;
+        at = corner.to;
         i += 1;
     }
     Ok(i)

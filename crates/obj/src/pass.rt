@@ -1,88 +1,73 @@
-// One pass over the lines: the vertices into a table, and where the face stands.
+// One pass over the lines: the vertices into a table, and the face.
 ghost use Rattle.std.specs.Prelude.{◌≡◌, ◌≤◌, length};
-ghost use Rattle.obj.specs.Steps.{LineNext, Stepping, Scans};
+ghost use Rattle.obj.specs.Steps.{Room, Stepping, Scans};
 
-use crate::text::{feed, line_end};
+use crate::table::{Entry, entry_of};
+use crate::text::first_line;
 use line::{Said, read_line};
 use refusal::Refusal;
 
-// What was seen of a file: how many vertices; whether a face, its line from here up to there, and how many vertices above it.
+// A face that was seen: its line, and how many vertices stand above it.
 #[derive(Clone, Copy)]
-pub(crate) struct Seen {
-    pub(crate) vertices: usize,
-    pub(crate) face: bool,
-    pub(crate) from: usize,
-    pub(crate) to: usize,
-    pub(crate) above: usize,
+pub(crate) struct Face<'a> {
+    pub(crate) line: &'a [u8],
+    pub(crate) above: u16,
 }
 
-// A line of the file: 14, then 16, then 15; a vertex takes two places of the table.
-fn step(
-    file: &[u8],
-    at: usize,
-    stop: usize,
-    line: usize,
-    seen: Seen,
-    table: &mut [i32],
-) -> Result<Seen, Refusal>
-    requires { LineNext file.now at stop line seen table.old }
-    ensures stepping { Stepping file.now stop line table.new result }
+// What was seen of a file: how many vertices, and the face, if there is one.
+#[derive(Clone, Copy)]
+pub(crate) struct Seen<'a> {
+    pub(crate) vertices: u16,
+    pub(crate) face: Option<Face<'a>>,
+}
+
+// A line of the file, past the first i: 14, then 16, then 15.
+fn step<'a>(
+    line: &'a [u8],
+    i: usize,
+    seen: Seen<'a>,
+    table: &mut [Entry],
+) -> Result<Seen<'a>, Refusal>
+    requires { Room line.now i seen table.old }
+    ensures stepping { Stepping line.now i seen.entry table.old table.new result }
     ensures table_len_unchanged { length table.new ≡ length table.old }
 {
-    let n = seen.vertices;
-    let said = read_line(&file[at..stop], n as u16);
-    match said {
+    let above = seen.vertices;
+    match read_line(line, above) {
         Said::Passed => Ok(seen),
-        Said::Other => Err(Refusal::Line(line + 1)),
-        Said::Vertex(x, y) => {
-            table[2 * n] = x;
-            table[2 * n + 1] = y;
+        Said::Other => Err(Refusal::Line(i + 1)),
+        Said::Vertex(v) => {
+            table[above as usize] = entry_of(v);
             Ok(Seen {
-                vertices: n + 1,
-                face: seen.face,
-                from: seen.from,
-                to: seen.to,
-                above: seen.above,
+                vertices: above + 1,
+                ..seen
             })
         }
-        Said::Face(named) => {
-            if seen.face {
-                return Err(Refusal::Face(line + 1));
-            }
-            if !named {
-                return Err(Refusal::Index(line + 1));
-            }
-            Ok(Seen {
-                vertices: n,
-                face: true,
-                from: at,
-                to: stop,
-                above: n,
-            })
-        }
+        Said::Face(_) if seen.face.is_some() => Err(Refusal::Face(i + 1)),
+        Said::Face(false) => Err(Refusal::Index(i + 1)),
+        Said::Face(true) => Ok(Seen {
+            face: Some(Face { line, above }),
+            ..seen
+        }),
     }
 }
 
-// All lines, as far as none is refused. After the last line the place is one past the end.
-pub(crate) fn scan(file: &[u8], table: &mut [i32]) -> Result<Seen, Refusal>
-    requires { (length file.now ≤ 65536) × (length table.old ≡ 16384) }
+// All lines, as far as none is refused.
+pub(crate) fn scan<'a>(file: &'a [u8], table: &mut [Entry]) -> Result<Seen<'a>, Refusal>
+    requires { (length file.now ≤ 65536) × (length table.old ≡ 8192) }
     ensures { Scans file.now table.new result }
 {
     let mut seen = Seen {
         vertices: 0,
-        face: false,
-        from: 0,
-        to: 0,
-        above: 0,
+        face: None,
     };
-    let mut at = 0;
-    let mut line = 0;
-    while at <= file.len() {
-        let end = feed(file, at);
-        let stop = line_end(file, at, end);
-        seen = step(file, at, stop, line, seen, table)?;
-        at = end + 1;
-        line += 1;
+    let mut rest = Some(file);
+    let mut i = 0;
+    while let Some(text) = rest {
+        let (line, more) = first_line(text);
+        seen = step(line, i, seen, table)?;
+        rest = more;
+        i += 1;
     }
     Ok(seen)
 }

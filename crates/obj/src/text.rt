@@ -1,34 +1,25 @@
 // Lines: where they end.
-ghost use Rattle.std.specs.Prelude.{◌≡◌, ◌≤◌, length};
-ghost use Rattle.line.specs.Text.{feed};
-ghost use Rattle.line.specs.Calls.{part, Until};
-ghost use Rattle.obj.specs.Steps.{line_from};
+ghost use Rattle.std.specs.Prelude.{◌≡◌, option_copied};
+ghost use Rattle.line.specs.Text.{unreturned};
+ghost use Rattle.obj.specs.Steps.{FirstLine};
 
-// The next feed from here on, or the end.
-pub(crate) fn feed(file: &[u8], at: usize) -> usize
-    requires { at ≤ length file.now }
-    ensures { Until feed file.now at result }
+// A line before its feed: a carriage return at its end is ignored.
+#[tactic(auto, unfolding(line::specs::Text::unreturned))]
+fn unreturned(line: &[u8]) -> &[u8]
+    ensures { result.now ≡ unreturned line.now }
 {
-    let mut i = at;
-    while i < file.len() {
-        if file[i] == 10 {
-            return i;
-        }
-        i += 1;
+    match line {
+        [front @ .., b'\r'] => front,
+        _ => line,
     }
-    i
 }
 
-// Where a line ends that a feed ends at `end`, or the file: a carriage return before the feed is ignored.
-pub(crate) fn line_end(file: &[u8], at: usize, end: usize) -> usize
-    requires { (at ≤ end) × (end ≤ length file.now) }
-    ensures { (at ≤ result) × (result ≤ end) × (part at result file.now ≡ line_from file.now at end) }
+// The first line of a text, and what stands after its feed, if it has one.
+pub(crate) fn first_line(text: &[u8]) -> (&[u8], Option<&[u8]>)
+    ensures { FirstLine text.now result.0.now (option_copied result.1) }
 {
-    if end == file.len() {
-        return end;
+    match text.iter().position(|&b| b == b'\n') {
+        Some(end) => (unreturned(&text[..end]), Some(&text[end + 1..])),
+        None => (text, None),
     }
-    if at == end {
-        return end;
-    }
-    if file[end - 1] == 13 { end - 1 } else { end }
 }

@@ -1,17 +1,16 @@
--- `obj::face::fit` meets its contract: the table tells the two refusals apart from every grid number. Assumes nothing.
-use mathlib.Core.Path.{sym, ap, ◌∙◌}
-use mir.Syntax.{w32}
-use mir.Val.{to_z, of_z}
-use mir.Facts.{to_z-of_z}
-use Rattle.obj.proofs.Exact.{beyond_fault, off_fault, else_passes}
+-- `obj::face::fit` meets its contract: what the table has of a decimal tells what its checks find. Assumes nothing.
+use mathlib.Core.Path.{sym, ◌∙◌}
+use mir.Syntax.{w16, w32}
+use Rattle.std.proofs.Common.{arith}
+use Rattle.whole.proofs.Range.{field}
+use Rattle.obj.proofs.Exact.{miss_fault, on_grid, on_small}
 use Rattle.obj.proofs.face.fit.Goals as goal
 
--- a number of the table is told by its bits
-pub returns-then-entry-eq-BEYOND : goal.returns-then-entry-eq-BEYOND
-returns-then-entry-eq-BEYOND c d e = beyond_fault d c.args.corner c.args.axis (sym e ∙ (sym (to_z-of_z c.ranges.entry) ∙ ap (to_z w32) c.if-entry-eq-BEYOND.true))
+pub returns-in-Ok : goal.returns-in-Ok
+returns-in-Ok c d e =
+    let n = sym e ∙ c.in-Ok.is in
+    let g = on_grid d c.args.corner c.args.axis c.in-Ok.k n in
+    (g.0, field w32 c.from.result (omega arith) ∙ (c.from.ensures ∙ (field w16 c.in-Ok.k (let s = on_small d c.in-Ok.k n in omega arith) ∙ g.1)))
 
-pub returns-then-entry-eq-OFF : goal.returns-then-entry-eq-OFF
-returns-then-entry-eq-OFF c d e = off_fault d c.args.corner c.args.axis (sym e ∙ (sym (to_z-of_z c.ranges.entry) ∙ ap (to_z w32) c.if-entry-eq-OFF.true))
-
-pub returns : goal.returns
-returns c d e = else_passes d c.args.corner c.args.axis (λ h. c.if-entry-eq-BEYOND.false (ap (of_z w32) (e ∙ h))) (λ h. c.if-entry-eq-OFF.false (ap (of_z w32) (e ∙ h)))
+pub returns-in-Err : goal.returns-in-Err
+returns-in-Err c d e = rw c.refused.ensures (miss_fault d c.args.corner c.args.axis c.in-Err.missed (sym e ∙ c.in-Err.is))

@@ -3,8 +3,8 @@ use Rattle.std.proofs.Common.{◌-◌, length}
 use Rattle.obj.proofs.Gather.{Gathering}
 use Rattle.obj.proofs.face.gather.Given as goal
 
-abbrev pub invariant-loop-from : goal.invariant-loop-from
-invariant-loop-from l = Gathering l.line l.above l.table l.numbers l.from l.to l.v l.i
+abbrev pub invariant-loop-corner : goal.invariant-loop-corner
+invariant-loop-corner l = Gathering l.line l.above l.table l.numbers l.at l.i
 
-abbrev pub decreases-loop-from : goal.decreases-loop-from
-decreases-loop-from l = length l.line - l.from
+abbrev pub decreases-loop-corner : goal.decreases-loop-corner
+decreases-loop-corner l = length l.line - l.at
