@@ -1,25 +1,23 @@
 -- What the pass over the corners and the search of pairs find is what the checks of a footprint say. Assumes nothing.
 use mathlib.Core.Path.{refl, sym, ap, subst, ◌∙◌}
 use mathlib.Core.Logic.{◌⊎◌, inl, inr, ⊎_elim}
-use mathlib.Core.List.{List}
-use Prim.Native.Nat.{ℕ, ◌+◌, ◌*◌, ◌≤◌, ◌<◌}
+use mathlib.Core.List.{List, [], ◌∷◌}
+use Prim.Native.Nat.{ℕ, ◌<◌}
 use native.Mathlib.Omega.{arith}
 use lib.IntN.{ℤ, pos}
 use lib.ListN.{length}
 use lib.Signed.{◌≤ℤ◌, ◌<ℤ◌}
 use Rattle.whole.proofs.Order.{clash}
 use Rattle.rules.specs.Ring.{Ring, ring, from, to, On}
-use Rattle.rules.specs.Refusal.{First, Passes, Fault, refuse}
-use Rattle.rules.specs.Good.{Same, Folds, Meet, FirstMeet, Sized, sized_check, shape_checks, footprint_checks}
+use Rattle.rules.specs.Refusal.{Refusal, First, Passes, Fault, refuse}
+use Rattle.rules.specs.Good.{Same, Folds, Meet, FirstMeet, Sized, area, sized_check, corners_check, ring_checks, shape_checks, footprint_checks}
 use Rattle.rules.proofs.Ring.{next_one}
 use Rattle.decide.proofs.Share.{fold_ends, end_folds}
-use Rattle.refusal.specs.Said.{Checked}
-use Rattle.refusal.specs.Said.{Finds}
+use Rattle.refusal.specs.Said.{Checked, Finds}
 use Rattle.refusal.proofs.Finds.{finds_after, finds_past}
-use Rattle.footprint.specs.Shape.{Stray, back, Bend, Drawing}
+use Rattle.footprint.specs.Shape.{Stray, back, Bend}
 use Rattle.footprint.proofs.Back.{back_below, next_back}
-use Rattle.whole.proofs.Decide.{none_found}
-use Rattle.rules.proofs.Checks.{first_found, definite_demand}
+use Rattle.rules.proofs.Checks.{definite_demand, fault_left}
 
 -- ---- folds
 pub bend_folds : (r : Ring) (i : ℕ) → i < r.size → ((j : ℕ) → j < r.size → Same r j → ⊥) → Bend r i → Folds r i
@@ -37,44 +35,39 @@ folds_bend r i h f =
     subst (λ (k : ℕ). On (r.at k) (r.at i) (to r i) ⊎ On (to r i) (r.at k) (r.at i)) e (fold_ends (from r f.0) (r.at i) (to r i) f.3)
 
 -- ---- the checks
-pub found_stray : (l : List ℤ) (j : ℕ) → First (Stray l) (length l) j → Fault (shape_checks l) (refuse 4 (12 + 2 * j) 0)
+pub found_stray : (l : List ℤ) (x : Refusal) → Fault (corners_check l ∷ []) x → Fault (shape_checks l) x
 unfolding shape_checks
-found_stray l j f = inl (j, f, refl)
+found_stray l x f = fault_left (corners_check l ∷ []) (ring_checks l) x f
 
-module _ (l : List ℤ) (e f : ℕ) (twice : ℤ) (d : Drawing l e f twice) where
-  no_stray : (j : ℕ) → j < length l → Stray l j → ⊥
-  no_stray j h f = f (d.reach j h)
-
-  pub found_same : e < (ring l).size → Fault (shape_checks l) (refuse 6 e 0)
+module _ (l : List ℤ) (reach : (j : ℕ) → j < length l → Stray l j → ⊥) where
+  pub found_same : (i : ℕ) → First (Same (ring l)) (ring l).size i → Fault (shape_checks l) (refuse 6 i 0)
   unfolding shape_checks
-  found_same h = inr (no_stray, inl (e, first_found d.same h, refl))
+  found_same i f = inr (reach, inl (i, f, refl))
 
-  pub found_fold : (ring l).size ≤ e → f < (ring l).size → Fault (shape_checks l) (refuse 7 f 0)
-  unfolding shape_checks
-  found_fold h k = inr (no_stray, inr (none, inl (f, record { below = k; bad = bend_folds (ring l) f k none (d.fold.found k); before = before }, refl)))
-    where
-      none : (j : ℕ) → j < (ring l).size → Same (ring l) j → ⊥
-      none = none_found d.same h
-
-      before : (j : ℕ) → j < f → Folds (ring l) j → ⊥
-      before j a b = d.fold.before j a (omega arith) (folds_bend (ring l) j (omega arith) b)
-
-  module _ (h : (ring l).size ≤ e) (k : (ring l).size ≤ f) where
-    no_folds : (j : ℕ) → j < (ring l).size → Folds (ring l) j → ⊥
-    no_folds j a b = none_found d.fold k j a (folds_bend (ring l) j a b)
-
-    pub found_meet : (i j : ℕ) → FirstMeet (ring l) i j → Fault (shape_checks l) (refuse 8 i j)
+  module _ (distinct : (j : ℕ) → j < (ring l).size → Same (ring l) j → ⊥) where
+    pub found_fold : (i : ℕ) → First (Bend (ring l)) (ring l).size i → Fault (shape_checks l) (refuse 7 i 0)
     unfolding shape_checks
-    found_meet i j m = inr (no_stray, inr (none_found d.same h, inr (no_folds, inl (i, j, m, refl))))
+    found_fold i f = inr (reach, inr (distinct, inl (i, record { below = f.below; bad = bend_folds (ring l) i f.below distinct f.bad; before = before }, refl)))
+      where
+        before : (j : ℕ) → j < i → Folds (ring l) j → ⊥
+        before j a b = f.before j a (folds_bend (ring l) j (let h = f.below in omega arith) b)
 
-    module _ (apart : (i j : ℕ) → Meet (ring l) i j → ⊥) where
-      pub found_clockwise : twice ≤ℤ pos 0 → Fault (shape_checks l) (refuse 9 0 0)
-      unfolding shape_checks
-      found_clockwise a = inr (no_stray, inr (none_found d.same h, inr (no_folds, inr (apart, inl (λ b. clash _ _ b (rw d.area at a), refl)))))
+    module _ (unbent : (j : ℕ) → j < (ring l).size → Bend (ring l) j → ⊥) where
+      no_folds : (j : ℕ) → j < (ring l).size → Folds (ring l) j → ⊥
+      no_folds j a b = unbent j a (folds_bend (ring l) j a b)
 
-      pub found_good : pos 0 <ℤ twice → Passes (shape_checks l)
+      pub found_meet : (i j : ℕ) → FirstMeet (ring l) i j → Fault (shape_checks l) (refuse 8 i j)
       unfolding shape_checks
-      found_good a = (no_stray, (none_found d.same h, (no_folds, (apart, (rw d.area at a, tt)))))
+      found_meet i j m = inr (reach, inr (distinct, inr (no_folds, inl (i, j, m, refl))))
+
+      module _ (apart : (i j : ℕ) → Meet (ring l) i j → ⊥) where
+        pub found_clockwise : area (ring l) (ring l).size ≤ℤ pos 0 → Fault (shape_checks l) (refuse 9 0 0)
+        unfolding shape_checks
+        found_clockwise a = inr (reach, inr (distinct, inr (no_folds, inr (apart, inl (λ b. clash _ _ b a, refl)))))
+
+        pub found_good : pos 0 <ℤ area (ring l) (ring l).size → Passes (shape_checks l)
+        unfolding shape_checks
+        found_good a = (reach, (distinct, (no_folds, (apart, (a, tt)))))
 
 -- ---- the shape, and the count before it
 pub footprint_finds : (l : List ℤ) (r : Checked) → Sized l → Finds (shape_checks l) r → Finds (footprint_checks l) r

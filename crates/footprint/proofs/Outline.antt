@@ -1,6 +1,9 @@
--- One pass over the corners: first hits, the reach of what was passed, twice the area. Assumes nothing.
+-- One pass over the corners: what was found of those passed, their reach, twice the area. Assumes nothing.
+use Rattle.std.specs.Prelude.{Option, None}
+use Rattle.std.specs.Bool.{then_some}
+use Rattle.std.specs.Option.{option_or}
 use mathlib.Core.Path.{◌≡◌, refl, sym, ap, subst, ◌∙◌}
-use mathlib.Core.Bool.{Bool, true, false, cond}
+use mathlib.Core.Bool.{Bool, true, false}
 use mathlib.Core.Logic.{⊎_elim}
 use mathlib.Core.List.{List, [], ◌∷◌}
 use Prim.Native.Nat.{ℕ, suc, ◌+◌, ◌*◌, ◌-◌, ◌≤◌, ◌<◌}
@@ -8,68 +11,45 @@ use native.Mathlib.Omega.{arith}
 use native.Mathlib.Numerals.{add-one}
 use lib.IntN.{ℤ, pos, nat_abs, ◌+ℤ◌, ◌-ℤ◌, ◌*ℤ◌}
 use lib.ListN.{length, get_or}
-use borrow.Author.Tests.{lt-ltb, le-ltb}
-use native.Mathlib.Nat.{add-zero}
 use Rattle.whole.proofs.Order.{ℕ_or}
 use Rattle.whole.proofs.Polynomial.{vars4, poly}
 use mir.Syntax.{w64}
 use mir.Val.{SFits}
 use Rattle.whole.proofs.Range.{fits, at_most, abs_add}
+use Rattle.whole.specs.Decide.{Decides}
+use Rattle.whole.proofs.Decide.{yes, truth}
 use Rattle.rules.specs.Reach.{Reach}
-use Rattle.rules.specs.Ring.{Ring, ring, next, from, to}
-use Rattle.rules.specs.Refusal.{First}
+use Rattle.rules.specs.Ring.{Pt, Ring, ring, next, from, to}
+use Rattle.rules.specs.Refusal.{Sought}
 use Rattle.rules.specs.Good.{Same, area}
+use Rattle.rules.proofs.Checks.{sought_none, sought_more, sought_map}
 use Rattle.rules.proofs.Reach.{between_stable}
 use Rattle.rules.proofs.Ring.{next_ways, next_inner}
-use Rattle.whole.specs.Decide.{Decides, Seeks}
-use Rattle.footprint.specs.Shape.{HoldsRing, Corner, Stray, back, Bend, first_hit, Drawing, equal, bends, wedge}
-use Rattle.whole.proofs.Decide.{yes, no, truth, none_found}
+use Rattle.footprint.specs.Point.{pt}
+use Rattle.footprint.specs.Shape.{HoldsRing, Corner, Stray, Reached, around, back, Bend, Draws, bends, wedge}
+use Rattle.footprint.specs.declared.point.Point.{Point}
 use Rattle.footprint.proofs.Steps.{reach_abs}
-use Rattle.footprint.proofs.Shape.{equal_decides, bends_decides}
-use Rattle.footprint.proofs.Back.{back_last, back_inner}
-
--- ---- first hits
--- of i numbers passed out of n
-pub record Seeking (Bad : ℕ → Type 0) (i n f : ℕ) : Type 0 where
-  pub before : (j : ℕ) → j < i → j < f → Bad j → ⊥
-  pub found : f < n → (f < i) × Bad f
-
-pub seeking_none : (Bad : ℕ → Type 0) (n : ℕ) → Seeking Bad 0 n n
-seeking_none Bad n = record { before = λ j l. absurd (omega arith); found = λ l. absurd (omega arith) }
-
-pub seeking_step : (Bad : ℕ → Type 0) (i n f : ℕ) (hit : Bool) → i < n → Seeking Bad i n f → Decides (Bad i) hit → Seeking Bad (i + 1) n (first_hit f n i hit)
-seeking_step Bad i n f hit h s d =
-    ⊎_elim (λ (k : n ≤ f). rw (le-ltb f n k) (last k hit d)) (λ (k : f < n). rw (lt-ltb f n k) (kept k)) (ℕ_or n f)
-  where
-    kept : f < n → Seeking Bad (i + 1) n f
-    kept k = let c = (s.found k).0 in record { before = λ j a b. s.before j (omega arith) b; found = λ l. (omega arith, (s.found k).1) }
-
-    last : n ≤ f → (t : Bool) → Decides (Bad i) t → Seeking Bad (i + 1) n (cond t i n)
-    last k true b = record { before = λ j a l. s.before j l (omega arith); found = λ l. (omega arith, b) }
-    last k false b = record {
-      before = λ j a l p. ⊎_elim (λ (m : i ≤ j). let e : j ≡ i = omega arith in b (subst Bad e p)) (λ (m : j < i). s.before j m (omega arith) p) (ℕ_or i j);
-      found = λ l. absurd (omega arith);
-    }
-
-pub seeking_done : (Bad : ℕ → Type 0) (n f : ℕ) → Seeking Bad n n f → Seeks Bad n f
-seeking_done Bad n f s = record { before = λ j a b. s.before j b a; found = λ l. (s.found l).1 }
+use Rattle.footprint.proofs.Shape.{bends_decides}
+use Rattle.footprint.proofs.Back.{around_next, back_last, back_inner}
 
 -- ---- reach
 pub size_of : {l : List ℤ} {n : ℕ} → HoldsRing l n → n ≡ (ring l).size
 size_of h = let e = h.whole in omega arith
 
--- of the first m numbers, those of the list are in reach
-abbrev pub Reached : List ℤ → ℕ → Type 0
-Reached l m = (j : ℕ) → j < m → j < length l → Reach (get_or l j (pos 0))
+-- an edge's far end, as the code has it
+pub to_next : {l : List ℤ} {n : ℕ} → HoldsRing l n → (i k : ℕ) → k ≡ around n (i + 1) → k ≡ next (ring l).size i
+to_next {n = n} h i k e = e ∙ (around_next n i ∙ ap (λ (m : ℕ). next m i) (size_of h))
 
 pub corner_at : (l : List ℤ) (n m i : ℕ) → HoldsRing l n → Reached l m → 2 * i + 1 < m → i < n → Corner l i
 corner_at l n m i h r k b = let e = h.whole in record { below = omega arith; x = r (2 * i) (omega arith) (omega arith); y = r (2 * i + 1) k (omega arith) }
 
--- neither number of a corner is out of reach
-pub corner_by : (l : List ℤ) (n k s : ℕ) → HoldsRing l n → k < n → Seeks (λ j. Stray l (2 * k + j)) 2 s → 2 ≤ s → Corner l k
-corner_by l n k s h b f c =
-    let e = h.whole in
-    record { below = omega arith; x = rw (add-zero (2 * k)) at (between_stable _ _ _ (none_found f c 0 (omega arith))); y = between_stable _ _ _ (none_found f c 1 (omega arith)) }
+-- where no number is out of reach, each corner is within it
+pub corners_within : {l : List ℤ} {n : ℕ} → HoldsRing l n → ((j : ℕ) → j < length l → Stray l j → ⊥) → (j : ℕ) → j < n → Corner l j
+corners_within {l = l} {n = n} h r j b = corner_at l n (2 * n) j h (λ k a c. between_stable _ _ _ (r k c)) (omega arith) b
+
+-- a corner that was read is within reach
+pub corner_read : {l : List ℤ} {n k : ℕ} → HoldsRing l n → k < n → (p : Point) → pt p ≡ (ring l).at k → Corner l k
+corner_read h b p e = record { below = let w = h.whole in omega arith; x = subst (λ q. Reach q.x) e p.x_within; y = subst (λ q. Reach q.y) e p.y_within }
 
 reached_more : (l : List ℤ) (n i : ℕ) → HoldsRing l n → i < n → Reached l (2 * i + 2) → Corner l (next n i) → Reached l (2 * (i + 1) + 2)
 reached_more l n i h b r c j a k =
@@ -85,16 +65,6 @@ reached_more l n i h b r c j a k =
 
 pub reached_next : (l : List ℤ) (n i : ℕ) → i < n → Reached l (2 * i + 2) → Reached l (2 * next n i)
 reached_next l n i b r j a = r j (⊎_elim (λ w. omega arith) (λ w. omega arith) (next_ways n i b))
-
--- the first number out of reach, where those of the corners before are in reach
-pub stray_first : (l : List ℤ) (n k s : ℕ) → HoldsRing l n → k < n → Seeks (λ j. Stray l (2 * k + j)) 2 s → s < 2 → Reached l (2 * k) → First (Stray l) (length l) (2 * k + s)
-stray_first l n k s h b f a r = record { below = let e = h.whole in omega arith; bad = f.found a; before = before }
-  where
-    own : (j : ℕ) → j < 2 * k + s → 2 * k ≤ j → Stray l j → ⊥
-    own j c m d = let e : 2 * k + (j - 2 * k) ≡ j = omega arith in f.before (j - 2 * k) (omega arith) (omega arith) (subst (Stray l) (sym e) d)
-
-    before : (j : ℕ) → j < 2 * k + s → Stray l j → ⊥
-    before j c d = ⊎_elim (λ (m : 2 * k ≤ j). own j c m d) (λ (m : j < 2 * k). d (r j m (let e = h.whole in omega arith))) (ℕ_or (2 * k) j)
 
 pub reached_two : (l : List ℤ) (n : ℕ) → HoldsRing l n → Corner l 0 → Reached l 2
 reached_two l n h c j a b = ⊎_elim (λ (m : 1 ≤ j). let e : 1 ≡ j = omega arith in rw e at c.y) (λ (m : j < 1). let e : 0 ≡ j = omega arith in subst at e c.x) (ℕ_or 1 j)
@@ -117,16 +87,16 @@ corners_small {l = l} {i = i} {k = k} a b =
 abbrev pub Later : Ring → ℕ → Type 0
 Later r j = (0 < j) × Bend r j
 
-pub record Passed (l : List ℤ) (n i e f : ℕ) (twice : ℤ) : Type 0 where
+pub record Passed (l : List ℤ) (n i : ℕ) (e f : Option ℕ) (twice : ℤ) : Type 0 where
   pub upto : i ≤ n
   pub reach : Reached l (2 * i + 2)
-  pub same : Seeking (Same (ring l)) i n e
-  pub fold : Seeking (Later (ring l)) i n f
+  pub same : Sought (Same (ring l)) i e
+  pub fold : Sought (Later (ring l)) i f
   pub area : twice ≡ area (ring l) i
   pub small : nat_abs twice ≤ 536870912 * i
 
-pub passed_none : (l : List ℤ) (n : ℕ) → Reached l 2 → Passed l n 0 n n (pos 0)
-passed_none l n r = record { upto = omega arith; reach = r; same = seeking_none _ n; fold = seeking_none _ n; area = refl; small = omega arith }
+pub passed_none : (l : List ℤ) (n : ℕ) → Reached l 2 → Passed l n 0 None None (pos 0)
+passed_none l n r = record { upto = omega arith; reach = r; same = sought_none _; fold = sought_none _; area = refl; small = omega arith }
 
 -- the flag of a bend at a corner after the first
 later_by : (r : Ring) (i : ℕ) (t : Bool) → i < r.size → Decides ((0 < i) × (bends (r.at (i - 1)) (r.at i) (to r i) ≡ true)) t → Decides (Later r i) t
@@ -138,7 +108,7 @@ later_by r i false h d = λ p. d (p.0, truth _ _ (bends_decides (r.at (i - 1)) (
 abbrev pub part : Ring → ℕ → ℤ
 part r i = wedge (from r i) (to r i)
 
-module _ (l : List ℤ) (n i e f : ℕ) (twice : ℤ) (h : HoldsRing l n) (p : Passed l n i e f twice) (b : i < n) where
+module _ (l : List ℤ) (n i : ℕ) (e f : Option ℕ) (twice : ℤ) (h : HoldsRing l n) (p : Passed l n i e f twice) (b : i < n) where
   pub corner_here : Corner l i
   corner_here = corner_at l n (2 * i + 2) i h p.reach (omega arith) b
 
@@ -157,13 +127,13 @@ module _ (l : List ℤ) (n i e f : ℕ) (twice : ℤ) (h : HoldsRing l n) (p : P
     pub sum_fits : SFits w64 (twice +ℤ part (ring l) i)
     sum_fits = fits w64 _ (let m = h.corners.most in omega (arith, sum_small))
 
-    pub passed_step : (s t : Bool) → s ≡ equal (from (ring l) i) (to (ring l) i) → Decides ((0 < i) × (bends ((ring l).at (i - 1)) ((ring l).at i) (to (ring l) i) ≡ true)) t
-        → Passed l n (i + 1) (first_hit e n i s) (first_hit f n i t) (twice +ℤ part (ring l) i)
+    pub passed_step : (s t : Bool) → Decides (Same (ring l) i) s → Decides ((0 < i) × (bends ((ring l).at (i - 1)) ((ring l).at i) (to (ring l) i) ≡ true)) t
+        → Passed l n (i + 1) (option_or e (then_some s i)) (option_or f (then_some t i)) (twice +ℤ part (ring l) i)
     passed_step s t q d = record {
       upto = omega arith;
       reach = reached_more l n i h b p.reach c;
-      same = seeking_step _ i n e s b p.same (rw q (equal_decides (from (ring l) i) (to (ring l) i)));
-      fold = seeking_step _ i n f t b p.fold (later_by (ring l) i t (rw (← (size_of h)) b) d);
+      same = sought_more _ i e s p.same q;
+      fold = sought_more _ i f t p.fold (later_by (ring l) i t (rw (← (size_of h)) b) d);
       area = summed p.area;
       small = sum_small;
     }
@@ -172,7 +142,7 @@ module _ (l : List ℤ) (n i e f : ℕ) (twice : ℤ) (h : HoldsRing l n) (p : P
         summed q = rw (add-one i, q)
 
 -- ---- all edges done, and corner 0 looked at
-module _ (l : List ℤ) (n e f : ℕ) (twice : ℤ) (h : HoldsRing l n) (p : Passed l n n e f twice) where
+module _ (l : List ℤ) (n : ℕ) (e f : Option ℕ) (twice : ℤ) (h : HoldsRing l n) (p : Passed l n n e f twice) where
   pub corner_all : (j : ℕ) → j < n → Corner l j
   corner_all j b = corner_at l n (2 * n + 2) j h p.reach (omega arith) b
 
@@ -183,19 +153,19 @@ module _ (l : List ℤ) (n e f : ℕ) (twice : ℤ) (h : HoldsRing l n) (p : Pas
       let k : back (ring l).size 0 ≡ n - 1 = back_last (ring l).size ∙ ap (λ (m : ℕ). m - 1) (sym (size_of h)) in
       rw (q, k) (bends_decides ((ring l).at (n - 1)) ((ring l).at 0) ((ring l).at 1))
 
-  drawing : (g : ℕ) → Seeks (Bend (ring l)) n g → Drawing l e g twice
-  drawing g k = record {
-    reach = λ j a. p.reach j (let z = h.whole in omega arith) a;
-    same = subst (λ (m : ℕ). Seeks (Same (ring l)) m e) (size_of h) (seeking_done _ n e p.same);
-    fold = subst (λ (m : ℕ). Seeks (Bend (ring l)) m g) (size_of h) k;
+  -- a fold at corner 0 comes before those of the pass
+  closed : (t : Bool) → Decides (Bend (ring l) 0) t → Sought (Bend (ring l)) n (option_or (then_some t 0) f)
+  closed true d = record { below = let m = h.corners.least in omega arith; bad = d; before = λ j a. absurd (omega arith) }
+  closed false d = sought_map _ _ n f (λ j a q. q.1) (λ j a q. ⊎_elim (λ (z : j ≤ 0). let k : j ≡ 0 = omega arith in absurd (d (subst (Bend (ring l)) k q))) (λ (z : 0 < j). (z, q)) (ℕ_or j 0)) p.fold
+
+  pub drawn : (t : Bool) (u v w : Pt) → t ≡ bends u v w → u ≡ (ring l).at (n - 1) → v ≡ (ring l).at 0 → w ≡ (ring l).at 1
+      → Draws l (record { same = e; fold = option_or (then_some t 0) f; area = twice })
+  drawn t u v w q x y z = record {
+    same = subst (λ (m : ℕ). Sought (Same (ring l)) m e) (size_of h) p.same;
+    fold = subst (λ (m : ℕ). Sought (Bend (ring l)) m (option_or (then_some t 0) f)) (size_of h) (closed t (rw (q, x, y, z) first_bend));
     area = p.area ∙ ap (area (ring l)) (size_of h);
   }
 
-  pub drawn_zero : bends ((ring l).at (n - 1)) ((ring l).at 0) ((ring l).at 1) ≡ true → Drawing l e 0 twice
-  drawn_zero t = drawing 0 (record { before = λ j a. absurd (omega arith); found = λ a. yes _ _ first_bend t })
-
-  pub drawn_later : bends ((ring l).at (n - 1)) ((ring l).at 0) ((ring l).at 1) ≡ false → Drawing l e f twice
-  drawn_later t = drawing f (record { before = before; found = λ a. (p.fold.found a).1.1 })
-    where
-      before : (j : ℕ) → j < f → j < n → Bend (ring l) j → ⊥
-      before j a c d = ⊎_elim (λ (z : j ≤ 0). let q : j ≡ 0 = omega arith in no _ _ first_bend t (subst (Bend (ring l)) q d)) (λ (z : 0 < j). p.fold.before j c a (z, d)) (ℕ_or j 0)
+  -- no number is out of reach
+  pub all_reached : (j : ℕ) → j < length l → Stray l j → ⊥
+  all_reached j b d = d (p.reach j (let z = h.whole in omega arith) b)

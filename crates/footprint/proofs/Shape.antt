@@ -1,5 +1,7 @@
 -- The tests of corners and edges decide what the rules say of them. Assumes nothing.
-use mathlib.Core.Path.{◌≡◌, refl, sym, ◌∙◌}
+use Rattle.std.specs.Ordering.{int_eq}
+use Rattle.std.proofs.lemmas.Bool.Decides.{Decides-int_eq}
+use mathlib.Core.Path.{◌≡◌, refl, sym, ap, ◌∙◌}
 use mathlib.Core.Bool.{Bool, true, false, not, ◌&&◌, ◌||◌}
 use mathlib.Core.Logic.{◌⊎◌, inl, inr, ⊎_elim}
 use lib.IntN.{ℤ, pos}
@@ -18,6 +20,15 @@ use Rattle.decide.proofs.Place.{least_low, most_high, least_of, most_of, range_y
 use Rattle.whole.specs.Decide.{Decides}
 use Rattle.whole.proofs.Decide.{decides, decides_not}
 use Rattle.footprint.specs.Shape.{equal, parted, boxes_apart, aside, shares, bends}
+
+-- ---- what `||` answers: its first flag, or else its second
+pub or_then : (s t : Bool) → s ≡ true → s ≡ (s || t)
+or_then true t e = refl
+or_then false t e = absurd (false_true e)
+
+pub or_else : (s t : Bool) → s ≡ false → t ≡ (s || t)
+or_else true t e = absurd (false_true (sym e))
+or_else false t e = refl
 
 -- ---- ranges
 parted_yes : (a b c d : ℤ) → parted a b c d ≡ true → Sep a b c d
@@ -90,6 +101,13 @@ equal_decides a b = decides (a ≡ b) (equal a b) (λ e. yes (and_yes _ _ e)) (�
 
     self : (u : ℤ) → ranged u u u ≡ true
     self u = yes_range u u u (≤ℤ_refl u) (≤ℤ_refl u)
+
+-- numbers of two corners, compared one by one
+pub same_decides : (a b : Pt) → Decides (a ≡ b) (int_eq a.x b.x && int_eq a.y b.y)
+same_decides a b =
+    let x = Decides-int_eq a.x b.x in
+    let y = Decides-int_eq a.y b.y in
+    decides (a ≡ b) _ (λ e. let h = and_yes _ _ e in pt_eq a b (x.0 h.0) (y.0 h.1)) (λ p. and_both _ _ (x.1 (ap (λ (q : Pt). q.x) p)) (y.1 (ap (λ (q : Pt). q.y) p)))
 
 -- ---- a point and an edge
 no_side : (p a b : Pt) → aside p p a b ≡ false

@@ -1,14 +1,14 @@
 -- What lies within reach fits a machine's width. Assumes nothing.
-use mathlib.Core.List.{List}
+use mathlib.Core.Path.{◌≡◌}
 use Prim.Native.Nat.{ℕ, ◌+◌, ◌*◌, ◌≤◌}
 use native.Mathlib.Omega.{arith}
 use lib.IntN.{ℤ, nat_abs, ◌-ℤ◌, ◌*ℤ◌}
 use mir.Syntax.{w64}
-use mir.Val.{SFits}
+use mir.Facts.{to_z-of_z}
+use mir.Val.{SFits, to_z, of_z}
 use Rattle.whole.proofs.Range.{fits, abs_by, abs_sub, abs_mul_le}
 use Rattle.rules.specs.Reach.{Reach}
-use Rattle.rules.specs.Ring.{ring}
-use Rattle.footprint.specs.Shape.{Corner}
+use Rattle.footprint.specs.declared.point.Point.{Point}
 use Rattle.footprint.specs.Steps.{SideSteps, CrossSteps}
 
 pub fit : (z : ℤ) → nat_abs z ≤ 4294967296 → SFits w64 z
@@ -43,8 +43,12 @@ cross_steps x y u v h i j k = record {
 apart : (a b : ℤ) → Reach a → Reach b → Broad (a -ℤ b)
 apart a b h k = omega (arith, abs_sub a b, reach_abs a h, reach_abs b k)
 
-pub turn_steps : {l : List ℤ} {i j k : ℕ} → Corner l i → Corner l j → Corner l k → SideSteps ((ring l).at i).x ((ring l).at i).y ((ring l).at j).x ((ring l).at j).y ((ring l).at k).x ((ring l).at k).y
-turn_steps a b c = cross_steps _ _ _ _ (apart _ _ b.x a.x) (apart _ _ b.y a.y) (apart _ _ c.x a.x) (apart _ _ c.y a.y)
+-- a corner's number, as a local reads it back
+pub reread : {z : ℤ} → Reach z → to_z w64 (of_z w64 z) ≡ z
+reread {z = z} h = to_z-of_z (fit z (let m = reach_abs z h in omega arith))
 
-pub wedge_steps : {l : List ℤ} {i j : ℕ} → Corner l i → Corner l j → CrossSteps ((ring l).at i).x ((ring l).at i).y ((ring l).at j).x ((ring l).at j).y
-wedge_steps a b = cross_steps _ _ _ _ (omega (arith, reach_abs _ a.x)) (omega (arith, reach_abs _ a.y)) (omega (arith, reach_abs _ b.x)) (omega (arith, reach_abs _ b.y))
+pub turn_steps : (a b c : Point) → SideSteps a.x a.y b.x b.y c.x c.y
+turn_steps a b c = cross_steps _ _ _ _ (apart _ _ b.x_within a.x_within) (apart _ _ b.y_within a.y_within) (apart _ _ c.x_within a.x_within) (apart _ _ c.y_within a.y_within)
+
+pub wedge_steps : (a b : Point) → CrossSteps a.x a.y b.x b.y
+wedge_steps a b = cross_steps _ _ _ _ (omega (arith, reach_abs _ a.x_within)) (omega (arith, reach_abs _ a.y_within)) (omega (arith, reach_abs _ b.x_within)) (omega (arith, reach_abs _ b.y_within))

@@ -8,8 +8,7 @@ use Rattle.whole.proofs.Decide.{decides_one}
 use Rattle.rules.specs.Reach.{Reach}
 use Rattle.rules.specs.Good.{Sized, footprint_checks}
 use Rattle.rules.proofs.Good.{definite_footprint}
-use Rattle.refusal.specs.Said.{Checked}
-use Rattle.refusal.specs.Said.{Finds}
+use Rattle.refusal.specs.Said.{Checked, Finds}
 use Rattle.refusal.proofs.Unique.{finds_one}
 
 pub check_footprint_one : (l : List ℤ) (r s : Checked) → Finds (footprint_checks l) r → Finds (footprint_checks l) s → r ≡ s

@@ -1,18 +1,19 @@
 -- What the checks of a footprint compute, and what their functions ask and answer. Assumes nothing.
-use Rattle.std.specs.Prelude.{◌≡◌, Bool, not, cond, ◌&&◌, ◌||◌, List, ◌⊎◌, ℕ, ◌+◌, ◌*◌, ◌-◌, ◌≤◌, ◌<◌, eqb, ltb, ℤ, pos, ◌-ℤ◌, ◌*ℤ◌, length, get_or}
+use Rattle.std.specs.Prelude.{◌≡◌, Bool, not, cond, ◌&&◌, ◌||◌, List, [], ◌∷◌, Option, Some, None, Result, Ok, Err, ◌⊎◌, ℕ, ◌+◌, ◌*◌, ◌-◌, ◌<◌, eqb, ℤ, pos, ◌-ℤ◌, ◌*ℤ◌, length, get_or}
 use Rattle.std.specs.Int.Signed.{lt_z}
 use Rattle.rules.specs.Reach.{Reach, Corners}
 use Rattle.rules.specs.Ring.{Pt, Ring, ring, from, to, On}
-use Rattle.rules.specs.Refusal.{First}
-use Rattle.rules.specs.Good.{Same, FirstMeet, Meet, area}
+use Rattle.rules.specs.Refusal.{Fault, Sought}
+use Rattle.rules.specs.Good.{Same, FirstMeet, Meet, area, corners_check}
 use Rattle.decide.specs.Side.{side_of}
 use Rattle.decide.specs.Touch.{least, most, ranged, same_side}
-use Rattle.whole.specs.Decide.{Seeks}
+use Rattle.refusal.specs.Said.{said}
+use Rattle.refusal.specs.declared.Refusal.{Refusal}
+use Rattle.footprint.specs.Point.{pt}
 use Rattle.footprint.specs.Table.{AllBoxed}
-use Rattle.footprint.specs.declared.checks.Outline.{Outline}
-use Rattle.footprint.specs.declared.checks.Outline.TheVariants.{Beyond, Drawn}
-use Rattle.footprint.specs.declared.checks.Pair.{Pair}
-use Rattle.footprint.specs.declared.checks.Pair.TheVariants.{NoPair, Edges}
+use Rattle.footprint.specs.declared.point.Point.{Point}
+use Rattle.footprint.specs.declared.extent.Extent.{Extent}
+use Rattle.footprint.specs.declared.checks.Drawing.{Drawing}
 
 -- the list holds n corners, as many as a footprint has
 pub record HoldsRing (l : List ℤ) (n : ℕ) : Type 0 where
@@ -28,6 +29,21 @@ pub record Corner (l : List ℤ) (i : ℕ) : Type 0 where
 -- number k on the way round a ring of n: n is 0 again
 abbrev pub around : ℕ → ℕ → ℕ
 around n k = cond (eqb k n) 0 k
+
+-- ---- reach
+-- of the first m numbers, those of the list are within reach
+abbrev pub Reached : List ℤ → ℕ → Type 0
+Reached l m = (j : ℕ) → j < m → j < length l → Reach (get_or l j (pos 0))
+
+-- number j; or, where those before it are within reach, the fault
+abbrev pub NumberSays : List ℤ → ℕ → Result ℤ Refusal → Type 0
+NumberSays l j (Ok z) = (z ≡ get_or l j (pos 0)) × Reach z
+NumberSays l j (Err x) = Reached l j → Fault (corners_check l ∷ []) (said x)
+
+-- corner k likewise
+abbrev pub CornerSays : List ℤ → ℕ → Result Point Refusal → Type 0
+CornerSays l k (Ok p) = pt p ≡ (ring l).at k
+CornerSays l k (Err x) = Reached l (2 * k) → Fault (corners_check l ∷ []) (said x)
 
 -- ---- tests
 abbrev pub equal : Pt → Pt → Bool
@@ -70,20 +86,11 @@ back n i = cond (eqb i 0) (n - 1) (i - 1)
 abbrev pub Bend : Ring → ℕ → Type 0
 Bend r i = On (r.at (back r.size i)) (r.at i) (to r i) ⊎ On (to r i) (r.at (back r.size i)) (r.at i)
 
--- a first hit, once there is one, stays
-abbrev pub first_hit : ℕ → ℕ → ℕ → Bool → ℕ
-first_hit found n i hit = cond (ltb found n) found (cond hit i n)
-
--- what the pass finds where every number is in reach
-pub record Drawing (l : List ℤ) (e f : ℕ) (twice : ℤ) : Type 0 where
-  pub reach : (j : ℕ) → j < length l → Reach (get_or l j (pos 0))
-  pub same : Seeks (Same (ring l)) (ring l).size e
-  pub fold : Seeks (Bend (ring l)) (ring l).size f
-  pub area : twice ≡ area (ring l) (ring l).size
-
-abbrev pub Outlined : List ℤ → Outline → Type 0
-Outlined l (Beyond j) = First (Stray l) (length l) j
-Outlined l (Drawn e f twice) = Drawing l e f twice
+-- what the pass finds where every number is within reach
+pub record Draws (l : List ℤ) (d : Drawing) : Type 0 where
+  pub same : Sought (Same (ring l)) (ring l).size d.same
+  pub fold : Sought (Bend (ring l)) (ring l).size d.fold
+  pub area : d.area ≡ area (ring l) (ring l).size
 
 -- ---- all pairs of edges
 -- the edges after edge i that are not its neighbours end before e: edge 0 has the last for a neighbour
@@ -91,10 +98,9 @@ abbrev pub Ends : ℕ → ℕ → ℕ → Type 0
 Ends n i e = ((i ≡ 0) × (e + 1 ≡ n)) ⊎ ((0 < i) × (e ≡ n))
 
 -- n corners within reach, and a table of their edges' boxes
-pub record Tabled (l t : List ℤ) (n : ℕ) : Type 0 where
+pub record Tabled (l : List ℤ) (t : List Extent) (n : ℕ) : Type 0 where
   pub held : HoldsRing l n
   pub corners : (j : ℕ) → j < n → Corner l j
-  pub room : 4 * n ≤ length t
   pub boxed : AllBoxed (ring l) t n
 
 -- the edges i and j share a point
@@ -102,6 +108,6 @@ abbrev pub edges_share : Ring → ℕ → ℕ → Bool
 edges_share r i j = shares (from r i) (to r i) (from r j) (to r j)
 
 -- the two that meet first
-abbrev pub FirstPair : Ring → Pair → Type 0
-FirstPair r NoPair = (i j : ℕ) → Meet r i j → ⊥
-FirstPair r (Edges i j) = FirstMeet r i j
+abbrev pub FirstPair : Ring → Option (ℕ × ℕ) → Type 0
+FirstPair r None = (i j : ℕ) → Meet r i j → ⊥
+FirstPair r (Some p) = FirstMeet r p.0 p.1

@@ -1,28 +1,27 @@
 -- The boxes of edges, as a table has them. Assumes nothing.
-use Rattle.std.specs.Prelude.{◌≡◌, Bool, ◌||◌, List, ℕ, ◌+◌, ◌*◌, ◌<◌, ℤ, pos, length, get_or}
+use Rattle.std.specs.Prelude.{◌≡◌, Bool, ◌||◌, List, ℕ, ◌<◌, ℤ, get_or}
 use Rattle.std.specs.Int.Signed.{lt_z}
-use Rattle.rules.specs.Ring.{Ring, from, to}
+use Rattle.rules.specs.Ring.{Pt, Ring, from, to}
 use Rattle.decide.specs.Touch.{least, most}
+use Rattle.footprint.specs.declared.extent.Interval.{Interval}
+use Rattle.footprint.specs.declared.extent.Extent.{Extent}
 
--- the range from a to b, whichever is lower, at u
-pub record Range (t : List ℤ) (u : ℕ) (a b : ℤ) : Type 0 where
-  pub low : get_or t u (pos 0) ≡ least a b
-  pub high : get_or t (u + 1) (pos 0) ≡ most a b
+-- from a to b, whichever is lower
+abbrev pub interval_of : ℤ → ℤ → Interval
+interval_of a b = record { low = least a b; high = most a b }
 
--- edge j's ranges
-pub record Boxed (r : Ring) (t : List ℤ) (j : ℕ) : Type 0 where
-  pub x : Range t (4 * j) (from r j).x (to r j).x
-  pub y : Range t (4 * j + 2) (from r j).y (to r j).y
+-- the box of the edge from a to b
+abbrev pub extent_of : Pt → Pt → Extent
+extent_of a b = record { x = interval_of a.x b.x; y = interval_of a.y b.y }
 
-abbrev pub AllBoxed : Ring → List ℤ → ℕ → Type 0
-AllBoxed r t n = (j : ℕ) → j < n → Boxed r t j
+-- two intervals have no number in common
+abbrev pub split : Interval → Interval → Bool
+split s t = lt_z t.high s.low || lt_z s.high t.low
 
--- the ranges at u and at v have no number in common
-abbrev pub split : List ℤ → ℕ → ℕ → Bool
-split t u v = lt_z (get_or t (v + 1) (pos 0)) (get_or t u (pos 0)) || lt_z (get_or t (u + 1) (pos 0)) (get_or t v (pos 0))
+-- two boxes have no point in common
+abbrev pub extents_apart : Extent → Extent → Bool
+extents_apart a b = split a.x b.x || split a.y b.y
 
--- a range is put at u: what stands before stays
-pub record Put (t t' : List ℤ) (u : ℕ) (a b : ℤ) : Type 0 where
-  pub here : Range t' u a b
-  pub rest : (m : ℕ) → m < u → get_or t' m (pos 0) ≡ get_or t m (pos 0)
-  pub size : length t' ≡ length t
+-- the first n boxes of a table are those of a ring's edges
+abbrev pub AllBoxed : Ring → List Extent → ℕ → Type 0
+AllBoxed r t n = (j : ℕ) (d : Extent) → j < n → get_or t j d ≡ extent_of (from r j) (to r j)

@@ -1,29 +1,26 @@
 // The checks of a footprint, in their order.
-ghost use Rattle.std.specs.Prelude.{◌≡◌, true, ℕ, ◌+◌, ◌*◌, ◌-◌, ◌<◌};
+ghost use Rattle.std.specs.Prelude.{◌≡◌, true, ℕ, ◌+◌, ◌*◌, ◌-◌, ◌<◌, [], ◌∷◌, length};
 ghost use Rattle.rules.specs.Reach.{Corners};
 ghost use Rattle.rules.specs.Ring.{ring};
-ghost use Rattle.rules.specs.Good.{Sized, Meet, shape_checks, footprint_checks};
-ghost use Rattle.refusal.specs.Said.{Finds};
-ghost use Rattle.whole.specs.Decide.{Decides, Seeks};
-ghost use Rattle.footprint.specs.Shape.{HoldsRing, Corner, Stray, first_hit, Drawing, Outlined, Ends, Tabled, edges_share, FirstPair, bends};
+ghost use Rattle.rules.specs.Refusal.{Sought};
+ghost use Rattle.rules.specs.Good.{Sized, Meet, corners_check, shape_checks, footprint_checks};
+ghost use Rattle.refusal.specs.Said.{Finds, Told};
+ghost use Rattle.whole.specs.Decide.{Decides};
+ghost use Rattle.footprint.specs.Point.{pt};
+ghost use Rattle.footprint.specs.Shape.{HoldsRing, Corner, NumberSays, CornerSays, Draws, Ends, Tabled, edges_share, FirstPair, bends};
 
-use crate::extent::{apart, fill};
-use crate::number::reaches;
-use crate::ring::{around, aside, bends, equal, wedge};
+use crate::extent::{Extent, Interval, apart, fill};
+use crate::number::{reaches, wide};
+use crate::point::Point;
+use crate::ring::{around, aside, bends, corner, wedge};
 use refusal::Refusal;
 
-// What one pass over the corners finds: a number out of reach, or the first corner that equals the next, the first with a fold (the corners' count where there is none), and twice the area.
+// What one pass over corners within reach finds: the first corner that equals the next, the first with a fold, and twice the area.
 #[derive(Clone, Copy)]
-enum Outline {
-    Beyond(usize),
-    Drawn(usize, usize, i64),
-}
-
-// The two edges that meet first.
-#[derive(Clone, Copy)]
-enum Pair {
-    NoPair,
-    Edges(usize, usize),
+struct Drawing {
+    same: Option<usize>,
+    fold: Option<usize>,
+    area: i64,
 }
 
 // The count, and an even list.
@@ -40,72 +37,58 @@ pub fn sized(l: &[i32]) -> bool
     len <= 128
 }
 
-// The first of a corner's two numbers that is out of reach, or 2.
-fn stray(l: &[i32], k: usize) -> usize
-    requires { k < (ring l.now).size }
-    ensures { Seeks (λ j. Stray l.now (2 * k + j)) 2 result }
+// Number j of the list, looked at before it is computed with.
+fn number(l: &[i32], j: usize) -> Result<i64, Refusal>
+    requires { j < length l.now }
+    ensures { NumberSays l.now j result }
 {
-    if !reaches(l[2 * k]) {
-        return 0;
+    if reaches(l[j]) {
+        Ok(wide(l[j]))
+    } else {
+        Err(Refusal::Reach(12 + 2 * j))
     }
-    if !reaches(l[2 * k + 1]) {
-        return 1;
-    }
-    2
 }
 
-// The first hit so far, of n.
-fn first_hit(found: usize, n: usize, i: usize, hit: bool) -> usize
-    ensures { result ≡ first_hit found n i hit }
+// Corner k, if both its numbers are within reach.
+fn reached(l: &[i32], k: usize) -> Result<Point, Refusal>
+    requires { k < (ring l.now).size }
+    ensures { CornerSays l.now k result }
 {
-    if found < n {
-        found
-    } else if hit {
-        i
-    } else {
-        n
-    }
+    let x = number(l, 2 * k)?;
+    let y = number(l, 2 * k + 1)?;
+    Ok(Point { x, y })
 }
 
 // Whether the edges at corner i bend back, but for corner 0, whose edge before is not looked at yet.
-fn bends_after(l: &[i32], i: usize, k: usize) -> bool
-    requires { Corner l.now (i - 1) × (Corner l.now i × Corner l.now k) }
-    ensures { Decides ((0 < i) × (bends ((ring l.now).at (i - 1)) ((ring l.now).at i) ((ring l.now).at k) ≡ true)) result }
+fn bends_after(l: &[i32], i: usize, here: Point, next: Point) -> bool
+    requires { Corner l.now (i - 1) }
+    ensures { Decides ((0 < i) × (bends ((ring l.now).at (i - 1)) (pt here) (pt next) ≡ true)) result }
 {
-    if i == 0 {
-        return false;
-    }
-    bends(l, i - 1, i, k)
+    0 < i && bends(corner(l, i - 1), here, next)
 }
 
 // One pass: a number's reach is looked at before it is computed with.
-fn draw(l: &[i32], n: usize) -> Outline
+fn draw(l: &[i32], n: usize) -> Result<Drawing, Refusal>
     requires { HoldsRing l.now n }
-    ensures { Outlined l.now result }
+    ensures { Told (corners_check l.now ∷ []) (Draws l.now) result }
 {
-    let s = stray(l, 0);
-    if s < 2 {
-        return Outline::Beyond(s);
+    let first = reached(l, 0)?;
+    let mut same = None;
+    let mut fold = None;
+    let mut area = 0;
+    for i in 0..n {
+        let next = reached(l, around(n, i + 1))?;
+        let here = corner(l, i);
+        same = same.or((here == next).then_some(i));
+        fold = fold.or(bends_after(l, i, here, next).then_some(i));
+        area += wedge(here, next);
     }
-    let mut same = n;
-    let mut fold = n;
-    let mut area: i64 = 0;
-    let mut i: usize = 0;
-    while i < n {
-        let k = around(n, i + 1);
-        let s = stray(l, k);
-        if s < 2 {
-            return Outline::Beyond(2 * k + s);
-        }
-        same = first_hit(same, n, i, equal(l, i, k));
-        fold = first_hit(fold, n, i, bends_after(l, i, k));
-        area += wedge(l, i, k);
-        i += 1;
-    }
-    if bends(l, n - 1, 0, 1) {
-        return Outline::Drawn(same, 0, area);
-    }
-    Outline::Drawn(same, fold, area)
+    let closing = bends(corner(l, n - 1), first, corner(l, 1)).then_some(0);
+    Ok(Drawing {
+        same,
+        fold: closing.or(fold),
+        area,
+    })
 }
 
 // Where the edges that edge i may meet end.
@@ -117,83 +100,72 @@ fn end(n: usize, i: usize) -> usize
 }
 
 // Whether the edges i and j share a point: most pairs are told apart by their boxes.
-fn shares(l: &[i32], t: &[i16], n: usize, i: usize, j: usize) -> bool
+fn shares(l: &[i32], t: &[Extent; 64], n: usize, i: usize, j: usize) -> bool
     requires { Tabled l.now t.now n × ((i < n) × (j < n)) }
     ensures { result ≡ edges_share (ring l.now) i j }
 {
-    if apart(t, i, j) {
+    if apart(t[i], t[j]) {
         return false;
     }
-    let k = around(n, i + 1);
-    let m = around(n, j + 1);
-    if aside(l, i, k, j, m) {
-        return false;
-    }
-    !aside(l, j, m, i, k)
+    let (a, b) = (corner(l, i), corner(l, around(n, i + 1)));
+    let (c, d) = (corner(l, j), corner(l, around(n, j + 1)));
+    !aside(a, b, c, d) && !aside(c, d, a, b)
 }
 
-// The first edge that edge i meets, or n. Its neighbours are left out.
-fn first_met(l: &[i32], t: &[i16], n: usize, i: usize) -> usize
+// The first edge that edge i meets. Its neighbours are left out.
+fn first_met(l: &[i32], t: &[Extent; 64], n: usize, i: usize) -> Option<usize>
     requires { Tabled l.now t.now n × (i < n) }
-    ensures { Seeks (Meet (ring l.now) i) n result }
+    ensures { Sought (Meet (ring l.now) i) n result }
 {
-    let end = end(n, i);
-    let mut j = i + 2;
-    while j < end {
+    for j in i + 2..end(n, i) {
         if shares(l, t, n, i, j) {
-            return j;
+            return Some(j);
         }
-        j += 1;
     }
-    n
+    None
 }
 
 // The first two edges that meet.
-fn first_pair(l: &[i32], t: &[i16], n: usize) -> Pair
+fn first_pair(l: &[i32], t: &[Extent; 64], n: usize) -> Option<(usize, usize)>
     requires { Tabled l.now t.now n }
     ensures { FirstPair (ring l.now) result }
 {
-    let mut i = 0;
-    while i < n {
-        let j = first_met(l, t, n, i);
-        if j < n {
-            return Pair::Edges(i, j);
+    for i in 0..n {
+        if let Some(j) = first_met(l, t, n, i) {
+            return Some((i, j));
         }
-        i += 1;
     }
-    Pair::NoPair
+    None
 }
 
-fn first_meet(l: &[i32], n: usize) -> Pair
+fn first_meet(l: &[i32], n: usize) -> Option<(usize, usize)>
     requires { HoldsRing l.now n × ((j : ℕ) → j < n → Corner l.now j) }
     ensures { FirstPair (ring l.now) result }
 {
-    let mut t = [0i16; 256];
+    let none = Interval { low: 0, high: 0 };
+    let mut t = [Extent { x: none, y: none }; 64];
     fill(l, n, &mut t);
     first_pair(l, &t, n)
 }
 
 // What a drawing says, and the edges' meetings.
-fn settle(l: &[i32], n: usize, same: usize, fold: usize, area: i64) -> Result<(), Refusal>
-    requires { HoldsRing l.now n × Drawing l.now same fold area }
+fn settle(l: &[i32], n: usize, drawing: Drawing) -> Result<(), Refusal>
+    requires { HoldsRing l.now n × Told (corners_check l.now ∷ []) (Draws l.now) (Ok drawing) }
     ensures { Finds (shape_checks l.now) result }
 {
-    if same < n {
-        return Err(Refusal::Same(same));
+    if let Some(i) = drawing.same {
+        return Err(Refusal::Same(i));
     }
-    if fold < n {
-        return Err(Refusal::Fold(fold));
+    if let Some(i) = drawing.fold {
+        return Err(Refusal::Fold(i));
     }
-    match first_meet(l, n) {
-        Pair::Edges(i, j) => Err(Refusal::Meet(i, j)),
-        Pair::NoPair => {
-            if 0 < area {
-                Ok(())
-            } else {
-                Err(Refusal::Clockwise)
-            }
-        }
+    if let Some((i, j)) = first_meet(l, n) {
+        return Err(Refusal::Meet(i, j));
     }
+    if drawing.area <= 0 {
+        return Err(Refusal::Clockwise);
+    }
+    Ok(())
 }
 
 // The checks from the reach of the corners on.
@@ -202,10 +174,8 @@ fn check_shape(l: &[i32]) -> Result<(), Refusal>
     ensures { Finds (shape_checks l.now) result }
 {
     let n = l.len() / 2;
-    match draw(l, n) {
-        Outline::Beyond(j) => Err(Refusal::Reach(12 + 2 * j)),
-        Outline::Drawn(same, fold, area) => settle(l, n, same, fold, area),
-    }
+    let drawing = draw(l, n)?;
+    settle(l, n, drawing)
 }
 
 // Whether a footprint is good: the corners' count, their reach, and their shape.

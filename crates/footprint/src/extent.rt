@@ -1,64 +1,68 @@
-// The boxes of all edges in a table, four numbers to an edge: lowest x, highest x, lowest y, highest y.
-// Most pairs of edges are told apart by their boxes, and the table is small enough to make it first.
-ghost use Rattle.std.specs.Prelude.{◌≡◌, ◌||◌, ℕ, ◌+◌, ◌*◌, ◌≤◌, ◌<◌, pos, length, get_or};
-ghost use Rattle.std.specs.Int.Signed.{lt_z};
+// The boxes of all edges in a table. Most pairs of edges are told apart by their boxes, and the table is small enough to make it first.
+ghost use Rattle.std.specs.Prelude.{◌≡◌, ℕ, ◌<◌};
 ghost use Rattle.std.specs.Int.{w16};
 ghost use Rattle.std.proofs.Common.{SFits};
 ghost use Rattle.rules.specs.Ring.{ring};
+ghost use Rattle.footprint.specs.Point.{pt};
 ghost use Rattle.footprint.specs.Shape.{HoldsRing, Corner};
-ghost use Rattle.footprint.specs.Table.{split, Put, AllBoxed};
+ghost use Rattle.footprint.specs.Table.{interval_of, extent_of, split, extents_apart, AllBoxed};
 
 use crate::number::{least, most, narrow};
-use crate::ring::{around, x, y};
+use crate::point::Point;
+use crate::ring::{around, corner};
 
-// The lower of two numbers, then the higher.
-fn put(t: &mut [i16], u: usize, a: i64, b: i64)
-    requires { (u + 1 < length t.old) × (SFits w16 a × SFits w16 b) }
-    ensures { Put t.old t.new u a b }
+// From the lower of two numbers to the higher: 16 bits hold every number within reach.
+#[derive(Clone, Copy)]
+pub(crate) struct Interval {
+    pub(crate) low: i16,
+    pub(crate) high: i16,
+}
+
+// The box of an edge.
+#[derive(Clone, Copy)]
+pub(crate) struct Extent {
+    pub(crate) x: Interval,
+    pub(crate) y: Interval,
+}
+
+fn interval_of(a: i64, b: i64) -> Interval
+    requires { SFits w16 a × SFits w16 b }
+    ensures { result ≡ interval_of a b }
 {
-    t[u] = narrow(least(a, b));
-    t[u + 1] = narrow(most(a, b));
+    let low = narrow(least(a, b));
+    let high = narrow(most(a, b));
+    Interval { low, high }
+}
+
+// The box of the edge from a to b.
+fn extent_of(a: Point, b: Point) -> Extent
+    ensures { result ≡ extent_of (pt a) (pt b) }
+{
+    let x = interval_of(a.x, b.x);
+    let y = interval_of(a.y, b.y);
+    Extent { x, y }
 }
 
 // The boxes of all edges.
-pub(crate) fn fill(l: &[i32], n: usize, t: &mut [i16])
-    requires { (HoldsRing l.now n × ((j : ℕ) → j < n → Corner l.now j)) × (4 * n ≤ length t.old) }
+pub(crate) fn fill(l: &[i32], n: usize, t: &mut [Extent; 64])
+    requires { HoldsRing l.now n × ((j : ℕ) → j < n → Corner l.now j) }
     ensures { AllBoxed (ring l.now) t.new n }
 {
-    let mut i: usize = 0;
-    while i < n {
-        let k = around(n, i + 1);
-        put(t, 4 * i, x(l, i), x(l, k));
-        put(t, 4 * i + 2, y(l, i), y(l, k));
-        i += 1;
+    for i in 0..n {
+        t[i] = extent_of(corner(l, i), corner(l, around(n, i + 1)));
     }
 }
 
-fn below(t: &[i16], u: usize, v: usize) -> bool
-    requires { (u < length t.now) × (v < length t.now) }
-    ensures { result ≡ lt_z (get_or t.now u (pos 0)) (get_or t.now v (pos 0)) }
+// Whether two intervals have no number in common.
+fn split(s: Interval, t: Interval) -> bool
+    ensures { result ≡ split s t }
 {
-    t[u] < t[v]
+    t.high < s.low || s.high < t.low
 }
 
-// Whether the ranges at u and at v have no number in common.
-fn split(t: &[i16], u: usize, v: usize) -> bool
-    requires { (u + 1 < length t.now) × (v + 1 < length t.now) }
-    ensures { result ≡ split t.now u v }
+// Whether two boxes have no point in common.
+pub(crate) fn apart(a: Extent, b: Extent) -> bool
+    ensures { result ≡ extents_apart a b }
 {
-    if below(t, v + 1, u) {
-        return true;
-    }
-    below(t, u + 1, v)
-}
-
-// Whether the boxes of the edges i and j have no point in common.
-pub(crate) fn apart(t: &[i16], i: usize, j: usize) -> bool
-    requires { (4 * i + 3 < length t.now) × (4 * j + 3 < length t.now) }
-    ensures { result ≡ (split t.now (4 * i) (4 * j) || split t.now (4 * i + 2) (4 * j + 2)) }
-{
-    if split(t, 4 * i, 4 * j) {
-        return true;
-    }
-    split(t, 4 * i + 2, 4 * j + 2)
+    split(a.x, b.x) || split(a.y, b.y)
 }

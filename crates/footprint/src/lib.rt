@@ -5,6 +5,7 @@
 mod checks;
 mod extent;
 mod number;
+mod point;
 mod ring;
 
 pub use checks::{check_footprint, sized};

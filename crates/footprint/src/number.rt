@@ -1,5 +1,5 @@
 // Leaf functions on signed numbers: the proofs above them see no machine words.
-ghost use Rattle.std.specs.Prelude.{◌≡◌, ◌&&◌, ◌||◌};
+ghost use Rattle.std.specs.Prelude.{◌≡◌};
 ghost use Rattle.std.specs.Int.Signed.{lt_z};
 ghost use Rattle.std.specs.Int.{w16};
 ghost use Rattle.std.proofs.Common.{SFits};
@@ -35,28 +35,16 @@ pub fn less(u: i64, v: i64) -> bool
     u < v
 }
 
-pub(crate) fn both(s: bool, t: bool) -> bool
-    ensures { result ≡ (s && t) }
-{
-    s && t
-}
-
-pub(crate) fn either(s: bool, t: bool) -> bool
-    ensures { result ≡ (s || t) }
-{
-    s || t
-}
-
 pub fn least(a: i64, b: i64) -> i64
     ensures { result ≡ least a b }
 {
-    if a <= b { a } else { b }
+    a.min(b)
 }
 
 pub fn most(a: i64, b: i64) -> i64
     ensures { result ≡ most a b }
 {
-    if a <= b { b } else { a }
+    a.max(b)
 }
 
 // Whether z lies from a to b.
@@ -70,5 +58,5 @@ pub fn ranged(a: i64, z: i64, b: i64) -> bool
 pub fn same_side(u: i64, v: i64) -> bool
     ensures { result ≡ same_side u v }
 {
-    either(both(less(u, 0), less(v, 0)), both(less(0, u), less(0, v)))
+    u < 0 && v < 0 || 0 < u && 0 < v
 }

@@ -1,10 +1,12 @@
-// Corners of a list and edges between them, by their numbers.
+// Corners of a list and edges between them.
 ghost use Rattle.std.specs.Prelude.{◌≡◌, ◌*◌, ◌+◌, ◌<◌};
 ghost use Rattle.rules.specs.Ring.{ring};
 ghost use Rattle.decide.specs.Side.{side_of};
-ghost use Rattle.footprint.specs.Shape.{Corner, around, equal, parted, boxes_apart, aside, bends, wedge};
+ghost use Rattle.footprint.specs.Point.{pt};
+ghost use Rattle.footprint.specs.Shape.{Corner, around, parted, boxes_apart, aside, bends, wedge};
 
-use crate::number::{both, either, least, less, most, ranged, same_side, wide};
+use crate::number::{least, most, same_side, wide};
+use crate::point::Point;
 
 // Number k on the way round a ring of n: after the last comes 0 again.
 pub fn around(n: usize, k: usize) -> usize
@@ -13,83 +15,53 @@ pub fn around(n: usize, k: usize) -> usize
     if k == n { 0 } else { k }
 }
 
-pub(crate) fn x(l: &[i32], i: usize) -> i64
-    requires { i < (ring l.now).size }
-    ensures { result ≡ ((ring l.now).at i).x }
+// Corner i, known to be within reach.
+pub(crate) fn corner(l: &[i32], i: usize) -> Point
+    requires { Corner l.now i }
+    ensures { pt result ≡ (ring l.now).at i }
 {
-    wide(l[2 * i])
-}
-
-pub(crate) fn y(l: &[i32], i: usize) -> i64
-    requires { i < (ring l.now).size }
-    ensures { result ≡ ((ring l.now).at i).y }
-{
-    wide(l[2 * i + 1])
+    let x = wide(l[2 * i]);
+    let y = wide(l[2 * i + 1]);
+    Point { x, y }
 }
 
 // Twice the area of three corners.
-pub(crate) fn turn(l: &[i32], i: usize, j: usize, k: usize) -> i64
-    requires { Corner l.now i × (Corner l.now j × Corner l.now k) }
-    ensures { result ≡ side_of ((ring l.now).at i) ((ring l.now).at j) ((ring l.now).at k) }
+fn turn(a: Point, b: Point, c: Point) -> i64
+    ensures { result ≡ side_of (pt a) (pt b) (pt c) }
 {
-    let a = x(l, i);
-    let b = y(l, i);
-    (x(l, j) - a) * (y(l, k) - b) - (y(l, j) - b) * (x(l, k) - a)
+    (b.x - a.x) * (c.y - a.y) - (b.y - a.y) * (c.x - a.x)
 }
 
 // An edge's part in twice the area.
-pub(crate) fn wedge(l: &[i32], i: usize, k: usize) -> i64
-    requires { Corner l.now i × Corner l.now k }
-    ensures { result ≡ wedge ((ring l.now).at i) ((ring l.now).at k) }
+pub(crate) fn wedge(a: Point, b: Point) -> i64
+    ensures { result ≡ wedge (pt a) (pt b) }
 {
-    x(l, i) * y(l, k) - y(l, i) * x(l, k)
-}
-
-// Whether two corners are the same: numbers that are no less and no more are equal.
-pub(crate) fn equal(l: &[i32], i: usize, k: usize) -> bool
-    requires { Corner l.now i × Corner l.now k }
-    ensures { result ≡ equal ((ring l.now).at i) ((ring l.now).at k) }
-{
-    let a = x(l, i);
-    let b = y(l, i);
-    both(ranged(a, x(l, k), a), ranged(b, y(l, k), b))
+    a.x * b.y - a.y * b.x
 }
 
 fn parted(a: i64, b: i64, c: i64, d: i64) -> bool
     ensures { result ≡ parted a b c d }
 {
-    either(less(most(c, d), least(a, b)), less(most(a, b), least(c, d)))
+    most(c, d) < least(a, b) || most(a, b) < least(c, d)
 }
 
-// Whether the boxes of the edges i k and j m have no point in common.
-fn boxes_apart(l: &[i32], i: usize, k: usize, j: usize, m: usize) -> bool
-    requires { (i < (ring l.now).size) × ((k < (ring l.now).size) × ((j < (ring l.now).size) × (m < (ring l.now).size))) }
-    ensures { result ≡ boxes_apart ((ring l.now).at i) ((ring l.now).at k) ((ring l.now).at j) ((ring l.now).at m) }
+// Whether the boxes of the edges a b and c d have no point in common.
+fn boxes_apart(a: Point, b: Point, c: Point, d: Point) -> bool
+    ensures { result ≡ boxes_apart (pt a) (pt b) (pt c) (pt d) }
 {
-    if parted(x(l, i), x(l, k), x(l, j), x(l, m)) {
-        return true;
-    }
-    parted(y(l, i), y(l, k), y(l, j), y(l, m))
+    parted(a.x, b.x, c.x, d.x) || parted(a.y, b.y, c.y, d.y)
 }
 
-// Whether the edge j m lies strictly on one side of the line of i k.
-pub(crate) fn aside(l: &[i32], i: usize, k: usize, j: usize, m: usize) -> bool
-    requires { (Corner l.now i × Corner l.now k) × (Corner l.now j × Corner l.now m) }
-    ensures { result ≡ aside ((ring l.now).at i) ((ring l.now).at k) ((ring l.now).at j) ((ring l.now).at m) }
+// Whether the edge c d lies strictly on one side of the line of a b.
+pub(crate) fn aside(a: Point, b: Point, c: Point, d: Point) -> bool
+    ensures { result ≡ aside (pt a) (pt b) (pt c) (pt d) }
 {
-    same_side(turn(l, i, k, j), turn(l, i, k, m))
+    same_side(turn(a, b, c), turn(a, b, d))
 }
 
-// Whether an outer end of the edges h i and i k lies on the other edge: three corners are seldom in line.
-pub(crate) fn bends(l: &[i32], h: usize, i: usize, k: usize) -> bool
-    requires { Corner l.now h × (Corner l.now i × Corner l.now k) }
-    ensures { result ≡ bends ((ring l.now).at h) ((ring l.now).at i) ((ring l.now).at k) }
+// Whether an outer end of the edges a b and b c lies on the other edge: three corners are seldom in line.
+pub(crate) fn bends(a: Point, b: Point, c: Point) -> bool
+    ensures { result ≡ bends (pt a) (pt b) (pt c) }
 {
-    if aside(l, h, i, k, k) {
-        return false;
-    }
-    if boxes_apart(l, i, k, h, h) {
-        return !boxes_apart(l, h, i, k, k);
-    }
-    true
+    !aside(a, b, c, c) && !(boxes_apart(b, c, a, a) && boxes_apart(a, b, c, c))
 }

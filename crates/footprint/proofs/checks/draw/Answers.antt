@@ -1,107 +1,78 @@
--- `checks::draw` draws the outline: first hits and area are those of the edges passed, whose corners are within reach. Assumes nothing.
-use Rattle.std.proofs.Common.{◌≡◌, Bool, true, List, length, ℕ, ◌+◌, ◌*◌, ◌-◌, ◌≤◌, ◌<◌, ℤ, ◌+ℤ◌, w64, FitsSigned, sym, ap, subst, ◌∙◌, arith}
+-- `checks::draw` draws the outline: what was found and the area are those of the edges passed, whose corners are within reach. Assumes nothing.
+use Rattle.std.proofs.Common.{◌≡◌, Bool, true, ◌&&◌, List, ℕ, ◌+◌, ◌-◌, ◌≤◌, ◌<◌, ℤ, ◌+ℤ◌, w64, FitsSigned, sym, ap, subst, ◌∙◌, arith}
 use Rattle.std.proofs.Math.Facts.{to_z-of_z}
-use Rattle.whole.specs.Decide.{Decides, Seeks}
+use Rattle.std.specs.Bool.{then_some}
+use Rattle.std.specs.Option.{option_or}
+use Rattle.std.specs.Ordering.{int_eq}
+use Rattle.std.specs.Prelude.{Option}
+use Rattle.whole.specs.Decide.{Decides}
 use Rattle.whole.proofs.Range.{read}
-use Rattle.rules.specs.Ring.{ring, next, from}
-use Rattle.rules.specs.Refusal.{First}
+use Rattle.rules.specs.Ring.{Pt, ring, next, to}
+use Rattle.rules.specs.Good.{Same}
 use Rattle.rules.proofs.Ring.{next_below}
-use Rattle.footprint.specs.Shape.{HoldsRing, Corner, Stray, around, bends, equal, wedge, first_hit}
+use Rattle.footprint.specs.Point.{pt}
+use Rattle.footprint.specs.Shape.{HoldsRing, Corner, around, bends, wedge}
 use Rattle.footprint.proofs.Back.{around_next}
-use Rattle.footprint.proofs.Outline.{size_of, Reached, corner_by, corner_here, corner_before, reached_next, stray_first}
-use Rattle.footprint.proofs.Outline.{Passed, part, passed_step, sum_fits, drawn_zero, drawn_later}
+use Rattle.footprint.proofs.Shape.{same_decides}
+use Rattle.footprint.proofs.Outline.{to_next, corner_read, Passed, part, passed_step, sum_fits, drawn, all_reached}
 use Rattle.footprint.proofs.checks.draw.Goals as goal
-use Rattle.footprint.proofs.checks.draw.Goals.{Else-s-lt2-2}
 
--- what `bends_after` says of corner i, whose edges come from i - 1 and go to k
-abbrev BendsAfter : List ℤ → ℕ → ℕ → Bool → Type 0
-BendsAfter l i k t = Decides ((0 < i) × (bends ((ring l).at (i - 1)) ((ring l).at i) ((ring l).at k) ≡ true)) t
-
--- a turn of the loop: the edge i that it looks at, and its end k
-module _ {l : List ℤ} {n i k e f : ℕ} {twice : ℤ} (h : HoldsRing l n) (p : Passed l n i e f twice) (b : i < n) (d : k ≡ around n (i + 1)) where
+-- a turn of the loop: corner i is p, and the next one, k, is q
+module _ {l : List ℤ} {n i k : ℕ} {e f : Option ℕ} {twice : ℤ} (h : HoldsRing l n) (v : Passed l n i e f twice) (b : i < n) (d : k ≡ around n (i + 1)) where
   next_is : k ≡ next n i
   next_is = d ∙ around_next n i
-
-  to_next : k ≡ next (ring l).size i
-  to_next = next_is ∙ ap (λ (m : ℕ). next m i) (size_of h)
 
   next_in : k < n
   next_in = subst (λ (m : ℕ). m < n) (sym next_is) (next_below n i b)
 
-  -- a number of the end is out of reach, or the end is a corner
-  strayed : {s : ℕ} → Seeks (λ j. Stray l (2 * k + j)) 2 s → s < 2 → First (Stray l) (length l) (2 * k + s)
-  strayed {s = s} q a = stray_first l n k s h next_in q a (subst (λ (m : ℕ). Reached l (2 * m)) (sym next_is) (reached_next l n i b p.reach))
-
-  after : {s : ℕ} → Seeks (λ j. Stray l (2 * k + j)) 2 s → 2 ≤ s → Corner l k
-  after {s = s} q a = corner_by l n k s h next_in q a
-
-  here : Corner l i
-  here = corner_here l n i e f twice h p b
-
-  before : Corner l (i - 1)
-  before = corner_before l n i e f twice h p b
-
-  -- one edge more
-  module _ (c : Corner l k) where
+  module _ (p q : Pt) (c : Corner l k) (x : p ≡ (ring l).at i) (y : q ≡ (ring l).at k) where
     beyond : Corner l (next n i)
     beyond = subst (Corner l) next_is c
 
-    -- its part of the area, by the end that the code has
-    part_is : wedge ((ring l).at i) ((ring l).at k) ≡ part (ring l) i
-    part_is = ap (λ (k : ℕ). wedge (from (ring l) i) ((ring l).at k)) to_next
+    far : q ≡ to (ring l) i
+    far = y ∙ ap (ring l).at (to_next h i k d)
 
-    fits_more : {w : ℤ} → w ≡ wedge ((ring l).at i) ((ring l).at k) → FitsSigned w64 (twice +ℤ w)
-    fits_more q = subst (λ (w : ℤ). FitsSigned w64 (twice +ℤ w)) (sym (q ∙ part_is)) (sum_fits l n i e f twice h p b beyond)
+    part_is : wedge p q ≡ part (ring l) i
+    part_is = rw (x, far)
 
-    step : {w : ℤ} {s : Bool} (t : Bool) {e' f' : ℕ} → w ≡ wedge ((ring l).at i) ((ring l).at k) → s ≡ equal ((ring l).at i) ((ring l).at k)
-        → BendsAfter l i k t → e' ≡ first_hit e n i s → f' ≡ first_hit f n i t → Passed l n (i + 1) e' f' (twice +ℤ w)
-    step {s = s} t q u v x y =
-        let same = u ∙ ap (λ (k : ℕ). equal (from (ring l) i) ((ring l).at k)) to_next in
-        let fold = subst (λ (k : ℕ). BendsAfter l i k t) to_next v in
-        rw (x, y, q ∙ part_is) (passed_step l n i e f twice h p b beyond s t same fold)
+    fits_more : {w : ℤ} → w ≡ wedge p q → FitsSigned w64 (twice +ℤ w)
+    fits_more u = rw (u, part_is) (sum_fits l n i e f twice h v b beyond)
+
+    same_is : (s : Bool) → s ≡ (int_eq p.x q.x && int_eq p.y q.y) → Decides (Same (ring l) i) s
+    same_is s u = rw (u, ← x, ← far) (same_decides p q)
+
+    bend_is : (t : Bool) → Decides ((0 < i) × (bends ((ring l).at (i - 1)) p q ≡ true)) t → Decides ((0 < i) × (bends ((ring l).at (i - 1)) ((ring l).at i) (to (ring l) i) ≡ true)) t
+    bend_is t z = rw (x, far) at z
+
+    step : {w : ℤ} (s t : Bool) {g m : Option ℕ} → w ≡ wedge p q → s ≡ (int_eq p.x q.x && int_eq p.y q.y) → Decides ((0 < i) × (bends ((ring l).at (i - 1)) p q ≡ true)) t
+        → g ≡ option_or e (then_some s i) → m ≡ option_or f (then_some t i) → Passed l n (i + 1) g m (twice +ℤ w)
+    step s t u a z o r = rw (o, r, u, part_is) (passed_step l n i e f twice h v b beyond s t (same_is s a) (bend_is t z))
 
 -- every edge passed
-done : {l : List ℤ} {n i e f : ℕ} {twice : ℤ} → Passed l n i e f twice → n ≤ i → Passed l n n e f twice
+done : {l : List ℤ} {n i : ℕ} {e f : Option ℕ} {twice : ℤ} → Passed l n i e f twice → n ≤ i → Passed l n n e f twice
 done {l = l} {n = n} {i = i} {e = e} {f = f} {twice = twice} p b = let u = p.upto in let q : i ≡ n = omega arith in subst (λ (i : ℕ). Passed l n i e f twice) q p
-
-pub returns-then-s-lt2-2 : goal.returns-then-s-lt2-2
-returns-then-s-lt2-2 c = strayed c.requires c.loop-i.invariant c.loop-i-test.true c.around-k.ensures c.stray-s-in-loop-i.ensures c.if-s-lt2-2.true
-
--- past the test of the end k: the corners that the loop computes with
-module _ (c : Else-s-lt2-2) where
-  ahead : Corner c.args.l.now c.around-k.result
-  ahead = after c.requires c.loop-i.invariant c.loop-i-test.true c.around-k.ensures c.stray-s-in-loop-i.ensures c.if-s-lt2-2.false
-
-  both : Corner c.args.l.now c.loop-i.i × Corner c.args.l.now c.around-k.result
-  both = (here c.requires c.loop-i.invariant c.loop-i-test.true c.around-k.ensures, ahead)
-
-  three : Corner c.args.l.now (c.loop-i.i - 1) × (Corner c.args.l.now c.loop-i.i × Corner c.args.l.now c.around-k.result)
-  three = (before c.requires c.loop-i.invariant c.loop-i-test.true c.around-k.ensures, both)
-
-pub equal-requires : goal.equal-requires
-equal-requires c = both (goal.at.equal-requires c).Else-s-lt2-2
-
-pub bends_after-requires : goal.bends_after-requires
-bends_after-requires c = three (goal.at.bends_after-requires c).Else-s-lt2-2
-
-pub wedge-area-requires : goal.wedge-area-requires
-wedge-area-requires c = both (goal.at.wedge-area-requires c).Else-s-lt2-2
 
 pub overflow_add-area : goal.overflow_add-area
 overflow_add-area c =
-    let s = (goal.at.overflow_add-area c).Else-s-lt2-2 in
-    let w = read w64 c.wedge-area.type_inv c.wedge-area.ensures in
-    fits_more s.requires s.loop-i.invariant s.loop-i-test.true s.around-k.ensures (ahead s) w
+    let v = c.loop-i.invariant in
+    let b = c.loop-i-test.true in
+    let next = corner_read c.requires (next_in c.requires v b c.around.ensures) c.in_ok-next.next c.in_ok-next.ensures in
+    fits_more c.requires v b c.around.ensures (pt c.corner-here.result) (pt c.in_ok-next.next) next c.corner-here.ensures c.in_ok-next.ensures (read w64 c.wedge-area.type_inv c.wedge-area.ensures)
 
 pub loop-i-preserved : goal.loop-i-preserved
 loop-i-preserved c =
-    let s = (goal.at.loop-i-preserved c).Else-s-lt2-2 in
+    let v = c.loop-i.invariant in
+    let b = c.loop-i-test.true in
+    let next = corner_read c.requires (next_in c.requires v b c.around.ensures) c.in_ok-next.next c.in_ok-next.ensures in
+    let more = step c.requires v b c.around.ensures (pt c.corner-here.result) (pt c.in_ok-next.next) next c.corner-here.ensures c.in_ok-next.ensures c.eq.result c.bends_after.result in
     let w = read w64 c.wedge-area.type_inv c.wedge-area.ensures in
-    let more = step s.requires s.loop-i.invariant s.loop-i-test.true s.around-k.ensures (ahead s) c.bends_after.result in
-    rw (to_z-of_z (overflow_add-area c)) (more w c.equal.ensures c.bends_after.ensures c.first_hit-same.ensures c.first_hit-fold.ensures)
-
-pub returns-then-bends : goal.returns-then-bends
-returns-then-bends c = drawn_zero _ _ _ _ _ c.requires (done c.loop-i.invariant c.loop-i-test.false) (sym c.bends.ensures ∙ c.if-bends.true)
+    let same = c.or-same.ensures ∙ ap (option_or c.loop-i.same) c.then_some.ensures in
+    let fold = c.or-fold.ensures ∙ ap (option_or c.loop-i.fold) c.then_some-in-loop-i.ensures in
+    rw (to_z-of_z (overflow_add-area c)) (more w c.eq.ensures c.bends_after.ensures same fold)
 
 pub returns : goal.returns
-returns c = drawn_later _ _ _ _ _ c.requires (done c.loop-i.invariant c.loop-i-test.false) (sym c.bends.ensures ∙ c.if-bends.false)
+returns c =
+    let p = done c.loop-i.invariant c.loop-i-test.false in
+    let fold = c.or.ensures ∙ ap (λ (o : Option ℕ). option_or o c.loop-i.fold) c.then_some-closing.ensures in
+    let drawing = drawn _ _ _ _ _ c.requires p c.bends.result (pt c.corner.result) (pt c.in_ok-first.first) (pt c.corner-2.result) c.bends.ensures c.corner.ensures c.in_ok-first.ensures c.corner-2.ensures in
+    ((all_reached _ _ _ _ _ c.requires p, tt), rw fold drawing)

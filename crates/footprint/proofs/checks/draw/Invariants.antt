@@ -1,10 +1,6 @@
--- The loop of `checks::draw`: first hits and area are those of the edges passed, whose corners are within reach. Assumes nothing.
-use Rattle.std.proofs.Common.{◌-◌}
+-- The loop of `checks::draw`: what was found and the area are those of the edges passed, whose corners are within reach. Assumes nothing.
 use Rattle.footprint.proofs.Outline.{Passed}
 use Rattle.footprint.proofs.checks.draw.Given as goal
 
 abbrev pub invariant-loop-i : goal.invariant-loop-i
 invariant-loop-i l = Passed l.l l.n l.i l.same l.fold l.area
-
-abbrev pub decreases-loop-i : goal.decreases-loop-i
-decreases-loop-i l = l.n - l.i

@@ -12,17 +12,14 @@ ends l n i e h d = subst (λ (m : ℕ). Ends m i e) (size_of h) d
 
 pub returns-then-shares : goal.returns-then-shares
 returns-then-shares c =
-    let v = c.loop-j.invariant in
-    let e = ends _ _ _ _ c.requires.0.held c.end-end.ensures in
-    record { before = λ m a b. missed _ _ _ e m (λ p q. v.1 m p a q); found = λ a. hit _ _ _ e _ v.0 c.loop-j-test.true (sym c.shares.ensures ∙ c.if-shares.true) }
+    let e = ends _ _ _ _ c.requires.0.held c.end-j-end.ensures in
+    let m = hit _ _ _ e _ c.loop-j.auto.j c.loop-j-test.true (sym c.shares.ensures ∙ c.if-shares.true) in
+    record { below = subst (λ (n : ℕ). c.loop-j.j < n) (sym (size_of c.requires.0.held)) m.below; bad = m; before = λ k a. missed _ _ _ e k (λ p q. c.loop-j.invariant k p a) }
 
 pub loop-j-preserved : goal.loop-j-preserved
-loop-j-preserved c =
-    let v = c.loop-j in
-    (omega arith, λ m a b e. ⊎_elim (λ (k : v.j ≤ m). let q : m ≡ v.j = omega arith in rw q (sym c.shares.ensures ∙ c.if-shares.false)) (λ (k : m < v.j). v.invariant.1 m a k e) (ℕ_or v.j m))
+loop-j-preserved c m a b = ⊎_elim (λ (k : c.loop-j.j ≤ m). let q : m ≡ c.loop-j.j = omega arith in rw q (sym c.shares.ensures ∙ c.if-shares.false)) (λ (k : m < c.loop-j.j). c.loop-j.invariant m a k) (ℕ_or c.loop-j.j m)
 
 pub returns : goal.returns
 returns c =
-    let v = c.loop-j.invariant in
-    let d = ends _ _ _ _ c.requires.0.held c.end-end.ensures in
-    record { before = λ m a b. missed _ _ _ d m (λ p q. v.1 m p (omega arith) q); found = λ a. absurd (omega arith) }
+    let d = ends _ _ _ _ c.requires.0.held c.end-j-end.ensures in
+    λ m b. missed _ _ _ d m (λ p q. c.loop-j.invariant m p (omega arith))

@@ -12,15 +12,14 @@ inside : (l : List ℤ) (n h k : ℕ) → HoldsRing l n → Meet (ring l) h k �
 inside l n h k p m = let b = m.below in let e = size_of p in omega arith
 
 pub loop-i-preserved : goal.loop-i-preserved
-loop-i-preserved c =
+loop-i-preserved c h k a m =
     let l = c.args.l.now in
-    let v = c.loop-i in
-    let r = c.first_met-j.ensures in (
-      omega arith,
-      λ h k a m. let b = inside _ _ _ _ c.requires.held m in
-          ⊎_elim (λ (q : v.i ≤ h). let e : h ≡ v.i = omega arith in r.before k (omega arith) b (subst (λ (h : ℕ). Meet (ring l) h k) e m)) (λ (q : h < v.i). v.invariant.1 h k q m)
-          (ℕ_or v.i h),
-    )
+    let i = c.loop-i.i in
+    let b = inside _ _ _ _ c.requires.held m in
+    ⊎_elim (λ (q : i ≤ h). let e : h ≡ i = omega arith in c.in_default.ensures k b (subst (λ (h : ℕ). Meet (ring l) h k) e m)) (λ (q : h < i). c.loop-i.invariant h k q m) (ℕ_or i h)
+
+pub returns-in-Some : goal.returns-in-Some
+returns-in-Some c = record { meet = c.in-Some.ensures.bad; before = c.loop-i.invariant; then = λ k a m. c.in-Some.ensures.before k a m }
 
 pub returns : goal.returns
-returns c = λ i j m. c.loop-i.invariant.1 i j (let a = m.order in let b = inside _ _ _ _ c.requires.held m in omega arith) m
+returns c i j m = c.loop-i.invariant i j (let a = m.order in let b = inside _ _ _ _ c.requires.held m in omega arith) m

@@ -1,35 +1,52 @@
 -- `checks::settle` finds what the checks say: same, fold, meeting and area, each where those before it found nothing. Assumes nothing.
-use Rattle.std.proofs.Common.{List, ℕ, ◌≤◌, ◌<◌, ℤ, pos, arith}
-use Rattle.whole.proofs.Range.{lt_yes, lt_no, lit}
+use Rattle.std.specs.Prelude.{Option, Some, None}
+use Rattle.std.proofs.Common.{◌≡◌, List, ℕ, ℤ, pos, w64, subst, arith}
+use Rattle.whole.proofs.Flag.{le_true, le_false}
+use Rattle.whole.proofs.Range.{field}
 use Rattle.rules.specs.Ring.{ring}
-use Rattle.footprint.specs.Shape.{HoldsRing}
+use Rattle.rules.specs.Refusal.{Sought}
+use Rattle.rules.specs.Good.{Same}
+use Rattle.footprint.specs.Shape.{Bend, Draws}
+use Rattle.footprint.specs.declared.checks.Drawing.{Drawing}
 use Rattle.footprint.proofs.Finds.{found_same, found_fold, found_meet, found_clockwise, found_good}
-use Rattle.footprint.proofs.Outline.{size_of}
+use Rattle.footprint.proofs.Outline.{corners_within}
 use Rattle.footprint.proofs.checks.settle.Goals as goal
 
-inside : {l : List ℤ} {n k : ℕ} → HoldsRing l n → k < n → k < (ring l).size
-inside h b = let e = size_of h in omega arith
+-- what a drawing says, where its answer is known
+module _ (l : List ℤ) (d : Drawing) (p : Draws l d) (o : Option ℕ) where
+  same : d.same ≡ o → Sought (Same (ring l)) (ring l).size o
+  same e = subst (Sought (Same (ring l)) (ring l).size) e p.same
 
-past : {l : List ℤ} {n k : ℕ} → HoldsRing l n → n ≤ k → (ring l).size ≤ k
-past h b = let e = size_of h in omega arith
+  fold : d.fold ≡ o → Sought (Bend (ring l)) (ring l).size o
+  fold e = subst (Sought (Bend (ring l)) (ring l).size) e p.fold
 
-pub returns-then-same-n : goal.returns-then-same-n
-returns-then-same-n c = found_same _ _ _ _ c.requires.1 (inside c.requires.0 c.if-same-n.true)
+pub returns-in-Some : goal.returns-in-Some
+returns-in-Some c = let p = c.requires.1 in found_same _ p.0.0 c.in-Some.i (same _ _ p.1 (Some c.in-Some.i) c.in-Some.is)
 
-pub returns-then-fold-n : goal.returns-then-fold-n
-returns-then-fold-n c = let h = c.requires.0 in found_fold _ _ _ _ c.requires.1 (past h c.if-same-n.false) (inside h c.if-fold-n.true)
+pub returns-in-Some-fold : goal.returns-in-Some-fold
+returns-in-Some-fold c =
+    let p = c.requires.1 in
+    found_fold _ p.0.0 (same _ _ p.1 None c.in_default.is) c.in-Some-fold.i (fold _ _ p.1 (Some c.in-Some-fold.i) c.in-Some-fold.is)
 
-pub returns-in-Edges : goal.returns-in-Edges
-returns-in-Edges c = let h = c.requires.0 in found_meet _ _ _ _ c.requires.1 (past h c.if-same-n.false) (past h c.if-fold-n.false) _ _ c.in-Edges.ensures
+pub first_meet-requires : goal.first_meet-requires
+first_meet-requires c = (c.requires.0, corners_within c.requires.0 c.requires.1.0.0)
 
-pub returns-then-area-gt0 : goal.returns-then-area-gt0
-returns-then-area-gt0 c =
-    let h = c.requires.0 in
-    let more = lt_yes (lit (pos 0) tt) c.ranges.area c.if-area-gt0.true in
-    found_good _ _ _ _ c.requires.1 (past h c.if-same-n.false) (past h c.if-fold-n.false) c.in-NoPair.ensures more
+pub returns-in-Some-first_meet : goal.returns-in-Some-first_meet
+returns-in-Some-first_meet c =
+    let p = c.requires.1 in
+    let m = c.in-Some-first_meet in
+    found_meet _ p.0.0 (same _ _ p.1 None c.in_default.is) (fold _ _ p.1 None c.in_default-fold.is) m.i m.j m.ensures
 
-pub returns-else-area-gt0 : goal.returns-else-area-gt0
-returns-else-area-gt0 c =
-    let h = c.requires.0 in
-    let less = lt_no (lit (pos 0) tt) c.ranges.area c.if-area-gt0.false in
-    found_clockwise _ _ _ _ c.requires.1 (past h c.if-same-n.false) (past h c.if-fold-n.false) c.in-NoPair.ensures less
+pub returns-then-drawing-le0 : goal.returns-then-drawing-le0
+returns-then-drawing-le0 c =
+    let p = c.requires.1 in
+    let a = c.args.drawing.area in
+    let less = le_true a (pos 0) (rw (field w64 a (omega arith)) at c.if-drawing-le0.true) in
+    found_clockwise _ p.0.0 (same _ _ p.1 None c.in_default.is) (fold _ _ p.1 None c.in_default-fold.is) c.in_default-first_meet.ensures (rw p.1.area at less)
+
+pub returns : goal.returns
+returns c =
+    let p = c.requires.1 in
+    let a = c.args.drawing.area in
+    let more = le_false a (pos 0) (rw (field w64 a (omega arith)) at c.if-drawing-le0.false) in
+    found_good _ p.0.0 (same _ _ p.1 None c.in_default.is) (fold _ _ p.1 None c.in_default-fold.is) c.in_default-first_meet.ensures (rw p.1.area at more)

@@ -1,16 +1,13 @@
 -- `checks::shares` is edges_share: each of the three tests is the definition's, of the corners that the edges' numbers name. Assumes nothing.
-use Rattle.std.proofs.Common.{◌≡◌, Bool, not, ◌||◌, List, ℕ, ◌+◌, ◌*◌, ◌<◌, ℤ, refl, sym, ap, ◌∙◌}
-use Rattle.rules.specs.Ring.{Ring, ring, next, from, to}
-use Rattle.footprint.specs.Table.{split}
-use Rattle.footprint.specs.Shape.{HoldsRing, Tabled, around, boxes_apart, aside, edges_share}
-use Rattle.footprint.proofs.Back.{around_next}
-use Rattle.footprint.proofs.Outline.{size_of}
-use Rattle.footprint.proofs.Table.{boxed_apart}
+use Rattle.std.proofs.Common.{◌≡◌, Bool, not, ◌||◌, ℕ, refl, sym, ap, ◌∙◌}
+use Rattle.rules.specs.Ring.{Pt, Ring, ring, from, to}
+use Rattle.footprint.specs.Point.{pt}
+use Rattle.footprint.specs.Shape.{boxes_apart, aside, edges_share}
+use Rattle.footprint.specs.Table.{extent_of, extents_apart}
+use Rattle.footprint.specs.declared.extent.Extent.{Extent}
+use Rattle.footprint.proofs.Outline.{to_next}
 use Rattle.footprint.proofs.checks.shares.Goals as goal
-
--- an edge's far end
-far : {l : List ℤ} {n : ℕ} → HoldsRing l n → (i k : ℕ) → k ≡ around n (i + 1) → k ≡ next (ring l).size i
-far {n = n} h i k e = e ∙ (around_next n i ∙ ap (λ (m : ℕ). next m i) (size_of h))
+use Rattle.footprint.proofs.checks.shares.Goals.{After-apart}
 
 -- what each test says of the edges i and j
 abbrev apart_edges : Ring → ℕ → ℕ → Bool
@@ -19,38 +16,42 @@ apart_edges r i j = boxes_apart (from r i) (to r i) (from r j) (to r j)
 abbrev aside_edges : Ring → ℕ → ℕ → Bool
 aside_edges r i j = aside (from r i) (to r i) (from r j) (to r j)
 
--- the second test, of an edge from corner i to k and one from j to m
-abbrev aside_at : Ring → ℕ → ℕ → ℕ → ℕ → Bool
-aside_at r i k j m = aside (r.at i) (r.at k) (r.at j) (r.at m)
-
-box : {l t : List ℤ} {n i j : ℕ} {a : Bool} → Tabled l t n → i < n → j < n
-    → a ≡ (split t (4 * i) (4 * j) || split t (4 * i + 2) (4 * j + 2)) → a ≡ apart_edges (ring l) i j
-box {l = l} {t = t} {i = i} {j = j} p h k e = e ∙ boxed_apart (ring l) t i j (p.boxed i h) (p.boxed j k)
-
-side : {l : List ℤ} {n : ℕ} (i j k m : ℕ) {s : Bool} → HoldsRing l n → k ≡ around n (i + 1) → m ≡ around n (j + 1)
-    → s ≡ aside_at (ring l) i k j m → s ≡ aside_edges (ring l) i j
-side {l = l} i j k m h d e f =
-    let r = ring l in
-    f ∙ ap (λ (k : ℕ). aside_at r i k j m) (far h i k d) ∙ ap (λ (m : ℕ). aside_at r i (next r.size i) j m) (far h j m e)
+side : (r : Ring) (i j : ℕ) (a b c d : Pt) {s : Bool} → s ≡ aside a b c d → a ≡ from r i → b ≡ to r i → c ≡ from r j → d ≡ to r j → s ≡ aside_edges r i j
+side r i j a b c d e p q u v = rw (p, q, u, v) at e
 
 told : (r : Ring) (i j : ℕ) {a s u : Bool} → a ≡ apart_edges r i j → s ≡ aside_edges r i j → u ≡ aside_edges r j i → not (a || (s || u)) ≡ edges_share r i j
 told r i j d e f = rw (d, e, f)
 
-pub returns-then-aside : goal.returns-then-aside
-returns-then-aside c =
-    let p = c.requires in
-    let i = c.args.i in
-    let j = c.args.j in
-    let boxes = sym c.if-apart.false ∙ box p.0 p.1.0 p.1.1 c.apart.ensures in
-    let first = sym c.if-aside.true ∙ side i j _ _ p.0.held c.around-k.ensures c.around-m.ensures c.aside.ensures in
-    told (ring c.args.l.now) i j boxes first refl
+-- by the boxes of the table
+box : (r : Ring) (i j : ℕ) (d e : Extent) {a : Bool} → a ≡ extents_apart d e → d ≡ extent_of (from r i) (to r i) → e ≡ extent_of (from r j) (to r j) → a ≡ apart_edges r i j
+box r i j d e q u v = rw (u, v) at q
 
-pub returns : goal.returns
-returns c =
+boxes : (c : After-apart) → c.apart.result ≡ apart_edges (ring c.args.l.now) c.args.i c.args.j
+boxes c =
     let p = c.requires in
+    box (ring c.args.l.now) c.args.i c.args.j _ _ c.apart.ensures (p.0.boxed c.args.i _ p.1.0) (p.0.boxed c.args.j _ p.1.1)
+
+pub returns-then-not-aside : goal.returns-then-not-aside
+returns-then-not-aside c =
+    let r = ring c.args.l.now in
     let i = c.args.i in
     let j = c.args.j in
-    let boxes = sym c.if-apart.false ∙ box p.0 p.1.0 p.1.1 c.apart.ensures in
-    let first = sym c.if-aside.false ∙ side i j _ _ p.0.held c.around-k.ensures c.around-m.ensures c.aside.ensures in
-    let second = side j i _ _ p.0.held c.around-m.ensures c.around-k.ensures c.aside-2.ensures in
-    told (ring c.args.l.now) i j boxes first second
+    let h = c.requires.0.held in
+    let b = c.corner-b.ensures ∙ ap r.at (to_next h i c.around.result c.around.ensures) in
+    let d = c.corner-d.ensures ∙ ap r.at (to_next h j c.around-2.result c.around-2.ensures) in
+    let apart = sym c.if-apart.false ∙ boxes (goal.at.returns-then-not-aside c).After-apart in
+    let first = sym c.if-not-aside.true ∙ side r i j (pt c.corner-a.result) (pt c.corner-b.result) (pt c.corner-c.result) (pt c.corner-d.result) c.aside.ensures c.corner-a.ensures b c.corner-c.ensures d in
+    let second = side r j i (pt c.corner-c.result) (pt c.corner-d.result) (pt c.corner-a.result) (pt c.corner-b.result) c.aside-then-not-aside.ensures c.corner-c.ensures d c.corner-a.ensures b in
+    told r i j apart first second
+
+pub returns-else-not-aside : goal.returns-else-not-aside
+returns-else-not-aside c =
+    let r = ring c.args.l.now in
+    let i = c.args.i in
+    let j = c.args.j in
+    let h = c.requires.0.held in
+    let b = c.corner-b.ensures ∙ ap r.at (to_next h i c.around.result c.around.ensures) in
+    let d = c.corner-d.ensures ∙ ap r.at (to_next h j c.around-2.result c.around-2.ensures) in
+    let apart = sym c.if-apart.false ∙ boxes (goal.at.returns-else-not-aside c).After-apart in
+    let first = sym c.if-not-aside.false ∙ side r i j (pt c.corner-a.result) (pt c.corner-b.result) (pt c.corner-c.result) (pt c.corner-d.result) c.aside.ensures c.corner-a.ensures b c.corner-c.ensures d in
+    ap not c.if-not-aside.false ∙ told r i j apart first refl

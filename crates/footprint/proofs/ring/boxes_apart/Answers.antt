@@ -1,16 +1,20 @@
--- `ring::boxes_apart` is boxes_apart: parted in x, or else in y, of corners' numbers read back. Assumes nothing.
+-- `ring::boxes_apart` is boxes_apart: parted in x, or else in y, of numbers read back. Assumes nothing.
 use mathlib.Core.Path.{◌≡◌, sym, ◌∙◌}
-use mir.Syntax.{w64}
-use Rattle.whole.proofs.Range.{read}
-use Rattle.rules.specs.Ring.{ring}
 use Rattle.footprint.specs.Shape.{parted}
+use Rattle.footprint.proofs.Shape.{or_then, or_else}
+use Rattle.footprint.proofs.Steps.{reread}
 use Rattle.footprint.proofs.ring.boxes_apart.Goals as goal
+use Rattle.footprint.proofs.ring.boxes_apart.Goals.{After-parted}
 
-pub returns : goal.returns
-returns c =
-    let r = ring c.args.l.now in
-    let in_x : c.parted.result ≡ parted (r.at c.args.i).x (r.at c.args.k).x (r.at c.args.j).x (r.at c.args.m).x =
-    c.parted.ensures ∙ rw (read w64 c.x.type_inv c.x.ensures, read w64 c.x-2.type_inv c.x-2.ensures, read w64 c.x-3.type_inv c.x-3.ensures, read w64 c.x-4.type_inv c.x-4.ensures) in
-    let in_y : c.parted-2.result ≡ parted (r.at c.args.i).y (r.at c.args.k).y (r.at c.args.j).y (r.at c.args.m).y =
-    c.parted-2.ensures ∙ rw (read w64 c.y.type_inv c.y.ensures, read w64 c.y-2.type_inv c.y-2.ensures, read w64 c.y-3.type_inv c.y-3.ensures, read w64 c.y-4.type_inv c.y-4.ensures) in
-    rw (sym in_x ∙ c.if-parted.false) in_y
+in_x : (c : After-parted) → c.parted.result ≡ parted c.args.a.x c.args.b.x c.args.c.x c.args.d.x
+in_x c = rw (reread c.args.a.x_within, reread c.args.b.x_within, reread c.args.c.x_within, reread c.args.d.x_within) at c.parted.ensures
+
+pub returns-then-parted : goal.returns-then-parted
+returns-then-parted c = let e = in_x (goal.at.returns-then-parted c).After-parted in e ∙ or_then _ _ (sym e ∙ c.if-parted.true)
+
+pub returns-else-parted : goal.returns-else-parted
+returns-else-parted c =
+    let e = in_x (goal.at.returns-else-parted c).After-parted in
+    let p = c.args in
+    let in_y = rw (reread p.a.y_within, reread p.b.y_within, reread p.c.y_within, reread p.d.y_within) at c.parted-else-parted.ensures in
+    in_y ∙ or_else _ _ (sym e ∙ c.if-parted.false)
