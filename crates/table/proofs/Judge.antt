@@ -22,14 +22,14 @@ use Rattle.rules.specs.Verdict.{Answer, clear, blocked, verdict_checks, answer}
 use Rattle.rules.proofs.Checks.{first_found, passes_append, fault_left, fault_right}
 use Rattle.rules.specs.Good.{Sized, Same, Meet, FirstMeet, area, RunNumber, BandNumber, run_checks, sized_check, band_check, shape_checks, footprint_checks, piece_checks}
 use Rattle.rules.specs.Place.{Where, on, inside, outside, Place, PointNumber, place_checks}
-use Rattle.rules.proofs.Reach.{between_stable, run_known}
+use Rattle.rules.proofs.Reach.{run_known}
 use Rattle.refusal.specs.Said.{Checked, Finds}
 use Rattle.refusal.specs.declared.Refusal.TheVariants as refusal
 use Rattle.decide.specs.Touch.{ranged, place, code}
 use Rattle.decide.proofs.Verdict.{verdict_right}
 use Rattle.decide.proofs.Place.{range_yes, yes_range, place_right}
 use Rattle.whole.specs.Decide.{Decides, Seeks}
-use Rattle.footprint.specs.Shape.{Stray, back, Bend, Drawing, equal, bends, edges_share}
+use Rattle.footprint.specs.Shape.{Stray, back, Bend, equal, bends, edges_share}
 use Rattle.piece.specs.Place.{Placed, Lies}
 use Rattle.piece.specs.Tells.{Verdict, Tells}
 use Rattle.whole.proofs.Decide.{yes, no, truth, decides, none_found, Below, none_yet, one_more, stop, seeks_end}
@@ -122,13 +122,11 @@ pair_of r = seek (λ i. ltb (row_of r i) r.size) r.size
 stray_seeks : (l : List ℤ) → Seeks (Stray l) (length l) (stray_of l)
 stray_seeks l = seeks (Stray l) _ (length l) (λ j h. other (Reach (get_or l j (pos 0))) (reaches (get_or l j (pos 0))) (reach_decides (get_or l j (pos 0))))
 
-drawing : (l : List ℤ) → length l ≤ stray_of l → Drawing l (same_of (ring l)) (fold_of (ring l)) (area (ring l) (ring l).size)
-drawing l h = record {
-  reach = λ j a. between_stable _ _ _ (none_found (stray_seeks l) h j a);
-  same = seeks (Same (ring l)) _ (ring l).size (λ i b. equal_decides (from (ring l) i) (to (ring l) i));
-  fold = seeks (Bend (ring l)) _ (ring l).size (λ i b. bends_decides ((ring l).at (back (ring l).size i)) ((ring l).at i) (to (ring l) i));
-  area = refl;
-}
+same_seeks : (r : Ring) → Seeks (Same r) r.size (same_of r)
+same_seeks r = seeks (Same r) _ r.size (λ i b. equal_decides (from r i) (to r i))
+
+fold_seeks : (r : Ring) → Seeks (Bend r) r.size (fold_of r)
+fold_seeks r = seeks (Bend r) _ r.size (λ i b. bends_decides (r.at (back r.size i)) (r.at i) (to r i))
 
 module _ (r : Ring) where
   row_seeks : (i : ℕ) → Seeks (Meet r i) r.size (row_of r i)
@@ -169,18 +167,20 @@ shape_of l =
 shape_finds : (l : List ℤ) → Finds (shape_checks l) (shape_of l)
 unfolding shape_of
 shape_finds l =
-    pick_finds _ _ _ _ _ (λ h. found_stray l _ (first_found (stray_seeks l) h))
-    (λ s. let d = drawing l s in
-    pick_finds _ _ _ _ _ (λ h. found_same l _ _ _ d h)
-    (λ e. pick_finds _ _ _ _ _ (λ h. found_fold l _ _ _ d e h)
-    (λ f. pick_finds _ _ _ _ _ (λ h. found_meet l _ _ _ d e f _ _ (first_pair (ring l) h))
-    (λ m. last d e f (no_pair (ring l) m) (lt_z (pos 0) (area (ring l) (ring l).size)) refl))))
+    pick_finds _ _ _ _ _ (λ h. found_stray l _ (inl (_, first_found (stray_seeks l) h, refl)))
+    (λ s. let reach = none_found (stray_seeks l) s in
+    pick_finds _ _ _ _ _ (λ h. found_same l reach _ (first_found (same_seeks (ring l)) h))
+    (λ e. let distinct = none_found (same_seeks (ring l)) e in
+    pick_finds _ _ _ _ _ (λ h. found_fold l reach distinct _ (first_found (fold_seeks (ring l)) h))
+    (λ f. let unbent = none_found (fold_seeks (ring l)) f in
+    pick_finds _ _ _ _ _ (λ h. found_meet l reach distinct unbent _ _ (first_pair (ring l) h))
+    (λ m. last reach distinct unbent (no_pair (ring l) m) (lt_z (pos 0) (area (ring l) (ring l).size)) refl))))
   where
-    last : Drawing l (same_of (ring l)) (fold_of (ring l)) (area (ring l) (ring l).size) → (ring l).size ≤ same_of (ring l) → (ring l).size ≤ fold_of (ring l)
+    last : ((j : ℕ) → j < length l → Stray l j → ⊥) → ((j : ℕ) → j < (ring l).size → Same (ring l) j → ⊥) → ((j : ℕ) → j < (ring l).size → Bend (ring l) j → ⊥)
         → ((i j : ℕ) → Meet (ring l) i j → ⊥) → (t : Bool) → lt_z (pos 0) (area (ring l) (ring l).size) ≡ t
         → Finds (shape_checks l) (cond t (Ok tt) (Err refusal.Clockwise))
-    last d e f m true q = found_good l _ _ _ d e f m (lt_true _ _ q)
-    last d e f m false q = found_clockwise l _ _ _ d e f m (lt_false _ _ q)
+    last reach distinct unbent m true q = found_good l reach distinct unbent m (lt_true _ _ q)
+    last reach distinct unbent m false q = found_clockwise l reach distinct unbent m (lt_false _ _ q)
 
 abbrev pub sized_flag : List ℤ → Bool
 sized_flag l = eqb (length l % 2) 0 && (leb 3 (length l / 2) && leb (length l / 2) 64)
