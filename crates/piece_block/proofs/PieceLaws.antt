@@ -29,7 +29,7 @@ use Rattle.block.specs.Layout.{piece_kind}
 use Rattle.pair.specs.Pair.{word, words, Half, Halves, Wide}
 use Rattle.piece_block.specs.Reading.{PieceIn, piece_block_checks, HoldsPiece, PieceGood, Held, piece_body_asked}
 use Rattle.block.specs.Reading.{inside, piece_bytes}
-use Rattle.piece_block.specs.Scan.{SlabAt, CornersAt}
+use Rattle.piece_block.specs.Scan.{PieceAt}
 use Rattle.seal.proofs.Bytes.{repeated, filled_at, filled_length, block_length, block_at, block_sealed, block_same}
 use Rattle.seal.proofs.Unnamed.{stable, unnamed_front}
 use Rattle.pair.proofs.Words.{word_one, words_length, reach_half, speed_half}
@@ -190,97 +190,95 @@ unfolding piece_block_checks
 inside_fault l k x p i f = fault_right (block_checks l ++ piece_bytes l) (inside (PieceIn l) piece_checks ∷ []) x p (inl (k, i, f))
 
 -- ---- what a block holds
-module _ (l : List ℕ) (b : Slab) (a : List ℤ) (bytes : (i : ℕ) → Fits w8 (byte l i)) (p : Passes (block_checks l ++ piece_bytes l)) (at : SlabAt l b) (corners : CornersAt l (2 * byte l 1) a) where
-  held : Piece
-  held = piece_of b (take (2 * byte l 1) a)
+-- the piece in the numbers that were read
+abbrev pub said_piece : PieceRead → Piece
+said_piece r = piece_of r.slab (take (2 * r.count) r.corners)
 
+module _ (l : List ℕ) (r : PieceRead) (bytes : (i : ℕ) → Fits w8 (byte l i)) (p : Passes (block_checks l ++ piece_bytes l)) (at : PieceAt l r) where
   first : Passes (block_checks l)
   first = passes_left (block_checks l) (piece_bytes l) p
 
   second : Passes (piece_bytes l)
   second = passes_right (block_checks l) (piece_bytes l) p
 
-  pub count_good : Corners (byte l 1)
+  pub count_good : Corners r.count
   unfolding piece_bytes
-  count_good = second.1.0
+  count_good = rw at.count second.1.0
 
-  long : length (take (2 * byte l 1) a) ≡ 2 * byte l 1
-  long = let c = count_good.most in let e = corners.all in length-take-le (2 * byte l 1) a (omega arith)
+  long : length (take (2 * r.count) r.corners) ≡ 2 * r.count
+  long = let c = count_good.most in let e = at.corners.all in length-take-le (2 * r.count) r.corners (omega arith)
 
-  zero_at : (j : ℕ) → 12 + 4 * byte l 1 ≤ j → j < body_size → byte l j ≡ 0
+  zero_at : (j : ℕ) → 12 + 4 * r.count ≤ j → j < body_size → byte l j ≡ 0
   unfolding piece_bytes
   zero_at j h g =
-      let e : 12 + 4 * byte l 1 + (j - (12 + 4 * byte l 1)) ≡ j = omega arith in
-      rw e at (stable (byte l (12 + 4 * byte l 1 + (j - (12 + 4 * byte l 1)))) 0 (second.1.1.0 (j - (12 + 4 * byte l 1)) (omega arith)))
+      let k = j - (12 + 4 * byte l 1) in let e : 12 + 4 * byte l 1 + k ≡ j = omega (arith, at.count) in
+      rw e at (stable (byte l (12 + 4 * byte l 1 + k)) 0 (second.1.1.0 k (omega (arith, at.count))))
 
-  past : (n : ℕ) → 2 * byte l 1 ≤ n → get_or (take (2 * byte l 1) a) n (pos 0) ≡ pos 0
-  past n g = let h : length (take (2 * byte l 1) a) ≤ n = omega (arith, long) in get_or-eq_default (take (2 * byte l 1) a) (pos 0) h
+  past : (n : ℕ) → 2 * r.count ≤ n → get_or (take (2 * r.count) r.corners) n (pos 0) ≡ pos 0
+  past n g = let h : length (take (2 * r.count) r.corners) ≤ n = omega (arith, long) in get_or-eq_default (take (2 * r.count) r.corners) (pos 0) h
 
-  corner_bits : (n : ℕ) → 5 + n < 254 → word (get_or (take (2 * byte l 1) a) n (pos 0)) ≡ byte l (2 + 2 * (5 + n)) + 256 * byte l (3 + 2 * (5 + n))
+  corner_bits : (n : ℕ) → 5 + n < 254 → word (get_or (take (2 * r.count) r.corners) n (pos 0)) ≡ byte l (2 + 2 * (5 + n)) + 256 * byte l (3 + 2 * (5 + n))
   corner_bits n h =
       ⊎_elim
-      (λ (g : 2 * byte l 1 ≤ n). rw (
+      (λ (g : 2 * r.count ≤ n). rw (
         past n g,
         zero_at (2 + 2 * (5 + n)) (omega arith) (omega arith),
         zero_at (3 + 2 * (5 + n)) (omega arith) (omega arith),
       ))
-      (λ (g : n < 2 * byte l 1). rw (get_or-take (2 * byte l 1) a n (pos 0) g) (corners.each n g).bits)
-      (ℕ_or (2 * byte l 1) n)
+      (λ (g : n < 2 * r.count). rw (get_or-take (2 * r.count) r.corners n (pos 0) g) (at.corners.each n g).bits)
+      (ℕ_or (2 * r.count) n)
 
-  corner_half : (n : ℕ) → Half (get_or (take (2 * byte l 1) a) n (pos 0))
+  corner_half : (n : ℕ) → Half (get_or (take (2 * r.count) r.corners) n (pos 0))
   corner_half n =
       ⊎_elim
-      (λ (g : 2 * byte l 1 ≤ n). rw (past n g) zero_half)
-      (λ (g : n < 2 * byte l 1). rw (get_or-take (2 * byte l 1) a n (pos 0) g) (corners.each n g).half)
-      (ℕ_or (2 * byte l 1) n)
+      (λ (g : 2 * r.count ≤ n). rw (past n g) zero_half)
+      (λ (g : n < 2 * r.count). rw (get_or-take (2 * r.count) r.corners n (pos 0) g) (at.corners.each n g).half)
+      (ℕ_or (2 * r.count) n)
 
-  numbers : Numbers l (piece_numbers held)
-  unfolding held
-  numbers zero h = at.bottom.bits
-  numbers (suc zero) h = at.top.bits
-  numbers (suc (suc zero)) h = at.vx.bits
-  numbers (suc (suc (suc zero))) h = at.vy.bits
-  numbers (suc (suc (suc (suc zero)))) h = at.vz.bits
+  numbers : Numbers l (piece_numbers (said_piece r))
+  numbers zero h = at.slab.bottom.bits
+  numbers (suc zero) h = at.slab.top.bits
+  numbers (suc (suc zero)) h = at.slab.vx.bits
+  numbers (suc (suc (suc zero))) h = at.slab.vy.bits
+  numbers (suc (suc (suc (suc zero)))) h = at.slab.vz.bits
   numbers (suc (suc (suc (suc (suc n))))) h = let e : 5 + n ≡ suc (suc (suc (suc (suc n)))) = omega arith in rw e at (corner_bits n (omega arith))
 
-  signed : (j : ℕ) → Half (get_or (piece_numbers held) j (pos 0))
-  unfolding held
-  signed zero = at.bottom.half
-  signed (suc zero) = at.top.half
-  signed (suc (suc zero)) = at.vx.half
-  signed (suc (suc (suc zero))) = at.vy.half
-  signed (suc (suc (suc (suc zero)))) = at.vz.half
+  signed : (j : ℕ) → Half (get_or (piece_numbers (said_piece r)) j (pos 0))
+  signed zero = at.slab.bottom.half
+  signed (suc zero) = at.slab.top.half
+  signed (suc (suc zero)) = at.slab.vx.half
+  signed (suc (suc (suc zero))) = at.slab.vy.half
+  signed (suc (suc (suc (suc zero)))) = at.slab.vz.half
   signed (suc (suc (suc (suc (suc n))))) = corner_half n
 
-  size_is : (ring (take (2 * byte l 1) a)).size ≡ byte l 1
+  size_is : (ring (take (2 * r.count) r.corners)).size ≡ r.count
   size_is = omega (arith, long)
 
-  sized : Sized (take (2 * byte l 1) a)
+  sized : Sized (take (2 * r.count) r.corners)
   sized = record { even = omega (arith, long); corners = rw size_is count_good }
 
-  same : l ≡ piece_block held
-  unfolding held block_checks piece_bytes
+  same : l ≡ piece_block (said_piece r)
+  unfolding block_checks piece_bytes
   same =
-      laid_is l bytes piece_kind (ring (take (2 * byte l 1) a)).size (piece_numbers held) numbers (let c = count_good.most in omega (arith, long)) first.0 first.1.0 second.0 (sym size_is)
-      ∙ sym (piece_block_lem held (sized_most (take (2 * byte l 1) a) sized))
+      laid_is l bytes piece_kind (ring (take (2 * r.count) r.corners)).size (piece_numbers (said_piece r)) numbers (let c = count_good.most in omega (arith, long)) first.0 first.1.0 second.0 (sym at.count ∙ sym size_is)
+      ∙ sym (piece_block_lem (said_piece r) (sized_most (take (2 * r.count) r.corners) sized))
 
-  pub piece_in : PieceIn l (piece_of b (take (2 * byte l 1) a))
-  unfolding held
+  pub piece_in : PieceIn l (said_piece r)
   piece_in = record { signed = signed; sized = sized; same = same }
 
-  rest : drop (2 * byte l 1) a ≡ replicate (128 - 2 * byte l 1) (pos 0)
+  rest : drop (2 * r.count) r.corners ≡ replicate (128 - 2 * r.count) (pos 0)
   rest =
-      ext_get_or (pos 0) (drop (2 * byte l 1) a) (replicate (128 - 2 * byte l 1) (pos 0))
-      (omega (arith, length-drop (2 * byte l 1) a, length-replicate (128 - 2 * byte l 1) (pos 0), corners.all))
-      (λ i h. get_or-drop (2 * byte l 1) a i (pos 0) ∙ corners.rest (2 * byte l 1 + i) (omega arith) ∙ sym (repeated (pos 0) (128 - 2 * byte l 1) i))
+      ext_get_or (pos 0) (drop (2 * r.count) r.corners) (replicate (128 - 2 * r.count) (pos 0))
+      (omega (arith, length-drop (2 * r.count) r.corners, length-replicate (128 - 2 * r.count) (pos 0), at.corners.all))
+      (λ i h. get_or-drop (2 * r.count) r.corners i (pos 0) ∙ at.corners.rest (2 * r.count + i) (omega arith) ∙ sym (repeated (pos 0) (128 - 2 * r.count) i))
 
-  pub piece_holds : HoldsPiece (record { slab = b; corners = a; count = byte l 1 }) (piece_of b (take (2 * byte l 1) a))
+  pub piece_holds : HoldsPiece r (said_piece r)
   piece_holds = record {
     numbers = refl;
     count = sym size_is;
     corners =
-        sym (take-append-drop (2 * byte l 1) a)
-        ∙ ap (λ z. take (2 * byte l 1) a ++ z) (rest ∙ ap (λ n. replicate (128 - n) (pos 0)) (sym long));
+        sym (take-append-drop (2 * r.count) r.corners)
+        ∙ ap (λ z. take (2 * r.count) r.corners ++ z) (rest ∙ ap (λ n. replicate (128 - n) (pos 0)) (sym long));
   }
 
 -- ---- a block holds one piece

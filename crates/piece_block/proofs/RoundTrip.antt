@@ -18,7 +18,7 @@ use Rattle.seal.specs.Seal.{block_size}
 use Rattle.piece_block.specs.declared.PieceRead.{PieceRead}
 use Rattle.piece_block.specs.Layout.{piece_block}
 use Rattle.piece_block.specs.Reading.{piece_asked, PieceGood, PieceSays, WritePieceSays}
-use Rattle.piece_block.proofs.PieceLaws.{sized_length, good_sized}
+use Rattle.piece_block.proofs.PieceLaws.{sized_length, good_sized, said_piece}
 use Rattle.piece_block.proofs.Unique.{write_piece_one, read_piece_one}
 
 -- what is read of a good piece
@@ -31,10 +31,6 @@ unfolding piece_asked
 written_piece b l before after r w f =
     read_piece_one after r (Ok (answer b l)) f
     (record { piece = piece_of b l; good = w.0.1; same = w.1; holds = record { numbers = refl; count = refl; corners = refl } })
-
--- the piece in the numbers that were read
-abbrev pub said_piece : PieceRead → Piece
-said_piece r = piece_of r.slab (take (2 * r.count) r.corners)
 
 -- the piece of an accepted block is that one
 pub piece_said : (l : List ℕ) (r : PieceRead) (f : PieceGood l r) → f.piece ≡ said_piece r

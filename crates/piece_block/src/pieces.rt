@@ -9,7 +9,7 @@ ghost use Rattle.piece_block.specs.Reading.{PieceSays, Held, WritePieceBodySays,
 ghost use Rattle.pair.specs.Pair.{Wide};
 
 use crate::PieceRead;
-use crate::scan::{corners_at, slab_at};
+use crate::scan::piece_at;
 use block::{Kind, PIECE, check_kind};
 use good::{Slab, check_piece};
 use pair::{first_wide, write_pairs};
@@ -19,29 +19,14 @@ use seal::{SIZE, clear, write_parts};
 // The length of a piece's numbers in its block, bytes 1 to 267 with the corner count first.
 const PIECE_BODY: usize = 267;
 
-// The piece in a block whose other bytes are right.
-#[tactic(auto, using(crate::proofs::PieceLaws::block_long, crate::proofs::PieceLaws::count_most))]
-fn piece_in(block: &[u8]) -> Result<PieceRead, Refusal>
-    requires { Passes (block_checks block.now ++ piece_bytes block.now) }
-    ensures { PieceSays block.now result }
-{
-    let count = block[1] as usize;
-    let n = 2 * count;
-    let slab = slab_at(block);
-    let corners = corners_at(block, n);
-    check_piece(slab, &corners[..n])?;
-    Ok(PieceRead {
-        slab,
-        corners,
-        count,
-    })
-}
-
+#[tactic(auto, using(crate::proofs::PieceLaws::block_long, crate::proofs::PieceLaws::count_most, crate::proofs::PieceLaws::bytes_fault))]
 pub fn read_piece(block: &[u8]) -> Result<PieceRead, Refusal>
     ensures { PieceSays block.now result }
 {
     check_kind(block, Kind::Piece)?;
-    piece_in(block)
+    let piece = piece_at(block);
+    check_piece(piece.slab, &piece.corners[..2 * piece.count])?;
+    Ok(piece)
 }
 
 // The numbers before the corners.
@@ -83,10 +68,7 @@ pub fn write_piece_body(slab: Slab, corners: &[i32], bytes: &mut [u8]) -> Result
     if bytes.len() != PIECE_BODY {
         return Err(Refusal::Length);
     }
-    if corners.len() % 2 != 0 {
-        return Err(Refusal::Corners);
-    }
-    if 128 < corners.len() {
+    if corners.len() % 2 != 0 || 128 < corners.len() {
         return Err(Refusal::Corners);
     }
     if let Some(wide) = wide_in(slab, corners) {

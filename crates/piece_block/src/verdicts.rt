@@ -6,25 +6,14 @@ ghost use Rattle.seal.specs.Seal.{block_checks};
 ghost use Rattle.block.specs.Reading.{piece_bytes};
 ghost use Rattle.piece_block.specs.Verdicts.{VerdictInSays};
 
-use crate::scan::{corners_at, slab_at};
+use crate::scan::piece_at;
 use block::{Kind, check_kind};
 use good::{Run, check_run};
 use piece::verdict;
 use refusal::Refusal;
 use seal::SIZE;
 
-// The verdict on the numbers in a block whose other bytes are right; it checks the run, and then the piece.
 #[tactic(auto, using(crate::proofs::PieceLaws::block_long, crate::proofs::PieceLaws::count_most))]
-fn judge(run: Run, block: &[u8]) -> Result<Option<u32>, Refusal>
-    requires { Passes (block_checks block.now ++ piece_bytes block.now) }
-    ensures { VerdictInSays (run_of run) block.now result }
-{
-    let n = 2 * block[1] as usize;
-    let slab = slab_at(block);
-    let corners = corners_at(block, n);
-    verdict(run, slab, &corners[..n])
-}
-
 pub fn verdict_in(run: Run, block: &[u8]) -> Result<Option<u32>, Refusal>
     ensures { VerdictInSays (run_of run) block.now result }
 {
@@ -34,5 +23,6 @@ pub fn verdict_in(run: Run, block: &[u8]) -> Result<Option<u32>, Refusal>
     let checked = check_kind(block, Kind::Piece);
     check_run(run)?;
     checked?;
-    judge(run, block)
+    let piece = piece_at(block);
+    verdict(run, piece.slab, &piece.corners[..2 * piece.count])
 }

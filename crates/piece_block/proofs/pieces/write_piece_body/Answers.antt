@@ -6,6 +6,7 @@ use Rattle.good.specs.Numbers.{piece_of}
 use Rattle.piece_block.specs.Reading.{piece_body_asked}
 use Rattle.piece_block.proofs.Bodies.{body_is}
 use Rattle.piece_block.proofs.pieces.write_piece_body.Goals as goal
+use Rattle.piece_block.proofs.pieces.write_piece_body.Goals.{then-corners-ne0-via-then-corners-ne0, then-corners-ne0-via-else-corners-ne0+then-corners-gt128}
 
 pub returns-then-bytes-ne-PIECE_BODY : goal.returns-then-bytes-ne-PIECE_BODY
 unfolding piece_body_asked
@@ -13,11 +14,19 @@ returns-then-bytes-ne-PIECE_BODY c = (inl (c.if-bytes-ne-PIECE_BODY.true, refl),
 
 pub returns-then-corners-ne0 : goal.returns-then-corners-ne0
 unfolding piece_body_asked
-returns-then-corners-ne0 c = (inr (c.if-bytes-ne-PIECE_BODY.false, inl (λ p. c.if-corners-ne0.true p.even, refl)), refl)
-
-pub returns-then-corners-gt128 : goal.returns-then-corners-gt128
-unfolding piece_body_asked
-returns-then-corners-gt128 c = (inr (c.if-bytes-ne-PIECE_BODY.false, inl (λ p. let m = p.most in omega arith, refl)), refl)
+returns-then-corners-ne0 c = (
+  inr (
+    c.if-bytes-ne-PIECE_BODY.false,
+    inl (
+      λ p. elim c.then-corners-ne0.branch [
+        then-corners-ne0-via-then-corners-ne0 w ↦ w.if-corners-ne0.true p.even
+      | then-corners-ne0-via-else-corners-ne0+then-corners-gt128 w ↦ let m = p.most in omega arith
+      ],
+      refl,
+    ),
+  ),
+  refl,
+)
 
 pub returns-in-Some : goal.returns-in-Some
 unfolding piece_body_asked

@@ -10,6 +10,6 @@ pub returns : goal.returns
 returns c =
     let l = c.args.block.now in let n = c.args.n in let zs = c.read_pairs.new.numbers in
     let m = 12 + 2 * n - 12 in let e : m ≡ 2 * n = omega arith in
-    let long = part_length l 12 m (omega (arith, c.requires)) ∙ e in let few = length-take-le n zeros (omega (arith, c.requires)) in
-    corners_read l n m c.requires.0 c.requires.1 e zs
+    let long = part_length l 12 m (omega arith) ∙ e in let few = length-take-le n zeros (omega arith) in
+    corners_read l n m c.requires (omega arith) e zs
     (pairs_read (take m (drop 12 l)) (take n zeros) zs c.read_pairs.result c.read_pairs.ensures (omega (arith, long, few))).1
