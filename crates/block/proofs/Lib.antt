@@ -1,5 +1,4 @@
 pub mod Bodies
-pub mod Found
 pub mod Headers
 pub mod KindLaws
 pub mod Laid

@@ -6,12 +6,11 @@ use mathlib.Core.List.{List, [], ◌∷◌, ◌++◌}
 use Prim.Native.Nat.{ℕ, zero, suc, ◌+◌, ◌*◌, ◌-◌, ◌≤◌, ◌<◌}
 use native.Mathlib.Omega.{arith}
 use lib.IntN.{ℤ, pos}
-use lib.ListN.{length, get_or, take, drop, replicate, length-replicate, length-drop, take-append-drop, get_or-eq_default, get_or-append, length-append}
+use lib.ListN.{length, get_or, take, drop, replicate, length-replicate, length-drop, take-append-drop, get_or-eq_default, get_or-append}
 use lib.Seq.{length-take-le, get_or-take, get_or-drop, get_or-append-add, ext_get_or}
 use lib.Signed.{le_z_yes}
-use mir.Syntax.{w8, w32}
-use mir.Val.{Fits, SFits, to_z, of_z}
-use mir.Facts.{to_z-of_z}
+use mir.Syntax.{w8}
+use mir.Val.{Fits}
 use Rattle.whole.proofs.Order.{ℕ_or}
 use Rattle.rules.specs.Reach.{Corners, Piece}
 use Rattle.rules.specs.Ring.{ring}
@@ -87,22 +86,10 @@ module _ (k : Piece) (p : Passes (piece_checks k)) where
   pub good_in : PieceIn (piece_block k) k
   good_in = record { signed = good_half; sized = good_sized; same = refl }
 
--- ---- a slab's numbers, as the machine has them in an array
-abbrev pub machine : Slab → List ℤ
-machine b =
-    to_z w32 (of_z w32 b.bottom)
-    ∷ to_z w32 (of_z w32 b.top)
-    ∷ to_z w32 (of_z w32 b.vx)
-    ∷ to_z w32 (of_z w32 b.vy)
-    ∷ to_z w32 (of_z w32 b.vz)
-    ∷ []
-
+-- ---- a slab's numbers
 -- the numbers before the corners
 abbrev pub slab_numbers : Slab → List ℤ
 slab_numbers b = b.bottom ∷ b.top ∷ b.vx ∷ b.vy ∷ b.vz ∷ []
-
-pub read_band : (b : Slab) → SFits w32 b.bottom → SFits w32 b.top → SFits w32 b.vx → SFits w32 b.vy → SFits w32 b.vz → machine b ≡ slab_numbers b
-read_band b p q r s t = rw (to_z-of_z p, to_z-of_z q, to_z-of_z r, to_z-of_z s, to_z-of_z t)
 
 -- two bytes hold them, and the corners
 module _ (b : Slab) (l : List ℤ) (h : Held (piece_of b l)) where
@@ -333,6 +320,3 @@ module _ (l : List ℕ) (r : PieceRead) (g : PieceGood l r) where
 
   pub held_few : 2 * r.count ≤ 128
   held_few = let e = sized_most g.piece.corners (good_sized g.piece g.good) in let f = held_count in omega arith
-
-  pub held_long : 2 * r.count ≤ length r.corners
-  held_long = let f = held_count in omega (arith, simp length-append at (ap length g.holds.corners))

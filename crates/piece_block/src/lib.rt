@@ -11,6 +11,7 @@ pub use pieces::{read_piece, slab_numbers, write_piece, write_piece_body};
 pub use verdicts::verdict_in;
 
 // A piece that was read: its corners stand first in the array, x, y, x, y .., and zeros after them.
+// The count stands beside an array, not in a list: nothing is on a heap, and a room is read in fixed memory.
 #[derive(Clone, Copy)]
 pub struct PieceRead {
     pub slab: Slab,

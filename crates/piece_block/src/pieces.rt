@@ -62,6 +62,7 @@ fn wide_in(slab: Slab, corners: &[i32]) -> Option<usize>
 }
 
 // The piece block's bytes 1 to 267, of any numbers that fit in there; whether they are a good piece's is not checked.
+#[tactic(auto, unfolding(crate::specs::Reading::piece_body_asked))]
 pub fn write_piece_body(slab: Slab, corners: &[i32], bytes: &mut [u8]) -> Result<(), Refusal>
     ensures { WritePieceBodySays (piece_of slab corners.now) bytes.old bytes.new result }
 {
@@ -79,6 +80,7 @@ pub fn write_piece_body(slab: Slab, corners: &[i32], bytes: &mut [u8]) -> Result
     Ok(())
 }
 
+#[tactic(auto, unfolding(crate::specs::Reading::piece_asked))]
 pub fn write_piece(slab: Slab, corners: &[i32], block: &mut [u8]) -> Result<(), Refusal>
     ensures { WritePieceSays (piece_of slab corners.now) block.old block.new result }
 {

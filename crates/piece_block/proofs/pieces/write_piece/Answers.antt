@@ -1,8 +1,6 @@
 -- `piece_block::pieces::write_piece` meets its contract: one byte, and then the piece's bytes. Assumes nothing.
 use Rattle.std.proofs.Common.{◌≡◌, refl, ap, ◌∙◌, List, ◌∷◌, ℕ, arith, length, replicate}
-use Rattle.std.proofs.lemmas.Result.{err_from_is_err_and}
 use mathlib.Core.List.{append-nil}
-use mathlib.Core.Logic.{inl, inr}
 use Rattle.rules.proofs.Checks.{never_both}
 use Rattle.refusal.specs.Said.{said}
 use Rattle.refusal.proofs.Unique.{written}
@@ -15,16 +13,6 @@ use Rattle.piece_block.proofs.Bodies.{piece_body_length}
 use Rattle.piece_block.proofs.OneFault.{definite_piece_body_asked}
 use Rattle.piece_block.proofs.PieceLaws.{good_asked, good_held}
 use Rattle.piece_block.proofs.pieces.write_piece.Goals as goal
-
-pub returns-then-block-ne-SIZE : goal.returns-then-block-ne-SIZE
-unfolding piece_asked
-returns-then-block-ne-SIZE c = (inl (c.if-block-ne-SIZE.true, refl), refl)
-
-pub returns-in_err-check_piece : goal.returns-in_err-check_piece
-unfolding piece_asked
-returns-in_err-check_piece c =
-    let p = err_from_is_err_and c.from_residual.result c.from_residual.ensures.1 in
-    rw (p.1, p.2) (inr (c.if-block-ne-SIZE.false, c.in_err-check_piece.ensures), refl)
 
 pub returns-in_err-write_piece_body : goal.returns-in_err-write_piece_body
 unfolding piece_asked

@@ -8,10 +8,6 @@ use Rattle.piece_block.proofs.Bodies.{body_is}
 use Rattle.piece_block.proofs.pieces.write_piece_body.Goals as goal
 use Rattle.piece_block.proofs.pieces.write_piece_body.Goals.{then-corners-ne0-via-then-corners-ne0, then-corners-ne0-via-else-corners-ne0+then-corners-gt128}
 
-pub returns-then-bytes-ne-PIECE_BODY : goal.returns-then-bytes-ne-PIECE_BODY
-unfolding piece_body_asked
-returns-then-bytes-ne-PIECE_BODY c = (inl (c.if-bytes-ne-PIECE_BODY.true, refl), refl)
-
 pub returns-then-corners-ne0 : goal.returns-then-corners-ne0
 unfolding piece_body_asked
 returns-then-corners-ne0 c = (
@@ -19,8 +15,8 @@ returns-then-corners-ne0 c = (
     c.if-bytes-ne-PIECE_BODY.false,
     inl (
       λ p. elim c.then-corners-ne0.branch [
-        then-corners-ne0-via-then-corners-ne0 w ↦ w.if-corners-ne0.true p.even
-      | then-corners-ne0-via-else-corners-ne0+then-corners-gt128 w ↦ let m = p.most in omega arith
+        | then-corners-ne0-via-then-corners-ne0 w ↦ w.if-corners-ne0.true p.even
+        | then-corners-ne0-via-else-corners-ne0+then-corners-gt128 w ↦ let m = p.most in omega arith
       ],
       refl,
     ),
@@ -28,24 +24,8 @@ returns-then-corners-ne0 c = (
   refl,
 )
 
-pub returns-in-Some : goal.returns-in-Some
-unfolding piece_body_asked
-returns-in-Some c = (
-  inr (
-    c.if-bytes-ne-PIECE_BODY.false,
-    inr (
-      record { even = c.if-corners-ne0.false; most = c.if-corners-gt128.false },
-      inl (c.in-Some.wide, c.in-Some.ensures, refl),
-    ),
-  ),
-  refl,
-)
-
 pub lay_piece-requires : goal.lay_piece-requires
-lay_piece-requires c = (
-  record { few = c.if-corners-gt128.false; halves = λ j h. between_stable _ _ _ (c.in_default.ensures j (omega arith)) },
-  c.if-bytes-ne-PIECE_BODY.false,
-)
+lay_piece-requires c = (record { few = c.if-corners-gt128.false; halves = λ j h. between_stable _ _ _ (c.in_default.ensures j (omega arith)) }, c.if-bytes-ne-PIECE_BODY.false)
 
 pub returns : goal.returns
 unfolding piece_body_asked
