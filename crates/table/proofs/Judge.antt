@@ -1,59 +1,60 @@
 -- What is good and where a point lies, computed: the answers that the public calls must give. Assumes nothing.
-use Rattle.std.specs.Prelude.{Ok, Err, Some, None}
+use Rattle.std.specs.Prelude.{Option, Ok, Err, Some, None}
 use Rattle.piece.specs.declared.spot.Spot.TheVariants.{On, Inside, Outside}
 use mathlib.Core.Path.{◌≡◌, refl}
 use mathlib.Core.Bool.{Bool, true, false, not, cond, ◌&&◌, ◌||◌}
 use mathlib.Core.Logic.{inl, inr, ⊎_elim}
 use mathlib.Core.List.{List}
-use Prim.Native.Nat.{ℕ, zero, suc, ◌+◌, ◌*◌, ◌/◌, ◌%◌, ◌≤◌, ◌<◌}
+use Prim.Native.Nat.{ℕ, zero, suc, ◌+◌, ◌*◌, ◌/◌, ◌%◌, ◌<◌}
 use native.Mathlib.Omega.{arith}
 use lib.Dec.{eqb, leb, ltb}
 use lib.IntN.{ℤ, pos, negsuc}
 use lib.ListN.{length, get_or}
 use lib.Signed.{le_z, lt_z}
-use borrow.Author.Tests.{eqb-true, eq-eqb, leb-true, le-leb, ltb-true, lt-ltb, le-ltb}
-use Rattle.whole.proofs.Order.{ℕ_or}
+use borrow.Author.Tests.{eqb-true, eq-eqb, leb-true, le-leb, ltb-true, lt-ltb}
 use Rattle.whole.proofs.Flag.{decided, or_yes, or_left, or_right, and_yes, and_both, le_true, lt_true, lt_false, true_le}
 use Rattle.rules.specs.Reach.{Between, Reach, Speed, Run, Piece}
 use Rattle.rules.specs.Ring.{Pt, Ring, ring, next, from, to, Neighbours, Share}
-use Rattle.rules.specs.Refusal.{Check, Passes}
+use Rattle.rules.specs.Refusal.{Check, Passes, Fault, First, Sought}
 use Rattle.rules.specs.Verdict as rules
 use Rattle.rules.specs.Verdict.{Answer, clear, blocked, verdict_checks, answer}
-use Rattle.rules.proofs.Checks.{first_found, passes_append, fault_left, fault_right}
+use Rattle.rules.proofs.Checks.{passes_append, fault_left, fault_right}
 use Rattle.rules.specs.Good.{Sized, Same, Meet, FirstMeet, area, RunNumber, BandNumber, run_checks, sized_check, band_check, shape_checks, footprint_checks, piece_checks}
 use Rattle.rules.specs.Place.{Where, on, inside, outside, Place, PointNumber, place_checks}
 use Rattle.rules.proofs.Reach.{run_known}
-use Rattle.refusal.specs.Said.{Checked, Finds}
+use Rattle.refusal.specs.Said.{said, Checked, Finds}
+use Rattle.refusal.specs.declared.Refusal.{Refusal}
 use Rattle.refusal.specs.declared.Refusal.TheVariants as refusal
 use Rattle.decide.specs.Touch.{ranged, place, code}
 use Rattle.decide.proofs.Verdict.{verdict_right}
 use Rattle.decide.proofs.Place.{range_yes, yes_range, place_right}
-use Rattle.whole.specs.Decide.{Decides, Seeks}
-use Rattle.footprint.specs.Shape.{Stray, back, Bend, equal, bends, edges_share}
+use Rattle.whole.specs.Decide.{Decides}
+use Rattle.footprint.specs.Shape.{Stray, back, Bend, FirstPair, equal, bends, edges_share}
 use Rattle.piece.specs.Place.{Placed, Lies}
 use Rattle.piece.specs.Tells.{Verdict, Tells}
-use Rattle.whole.proofs.Decide.{yes, no, truth, decides, none_found, Below, none_yet, one_more, stop, seeks_end}
+use Rattle.whole.proofs.Decide.{yes, no, truth, decides, Below, none_yet, one_more}
 use Rattle.footprint.proofs.Shape.{shares_decides, equal_decides, bends_decides}
 use Rattle.footprint.proofs.Finds.{found_stray, found_same, found_fold, found_meet, found_clockwise, found_good, footprint_finds}
 use Rattle.good.proofs.Finds.{piece_finds, place_finds}
 
 -- ---- the first of several
-unfoldable pub seek_from : (ℕ → Bool) → ℕ → ℕ → ℕ
-seek_from f i zero = i
-seek_from f i (suc k) = cond (f i) i (seek_from f (i + 1) k)
+unfoldable pub seek_from : (ℕ → Bool) → ℕ → ℕ → Option ℕ
+seek_from f i zero = None
+seek_from f i (suc k) = cond (f i) (Some i) (seek_from f (i + 1) k)
 
-abbrev pub seek : (ℕ → Bool) → ℕ → ℕ
+abbrev pub seek : (ℕ → Bool) → ℕ → Option ℕ
 seek f n = seek_from f 0 n
 
-seeks_from : (Bad : ℕ → Type 0) (f : ℕ → Bool) (n : ℕ) → ((j : ℕ) → j < n → Decides (Bad j) (f j)) → (i k : ℕ) → i + k ≡ n → Below Bad i → Seeks Bad n (seek_from f i k)
+sought_from : (Bad : ℕ → Type 0) (f : ℕ → Bool) (n : ℕ) → ((j : ℕ) → j < n → Decides (Bad j) (f j)) → (i k : ℕ) → i + k ≡ n → Below Bad i → Sought Bad n (seek_from f i k)
 unfolding seek_from
-seeks_from Bad f n d i zero e b = seeks_end Bad n i (omega arith) b
-seeks_from Bad f n d i (suc k) e b =
-    ⊎_elim (λ t. rw t (stop Bad n i b (yes _ _ (d i (omega arith)) t))) (λ t. rw t (seeks_from Bad f n d (i + 1) k (omega arith) (one_more Bad i b (no _ _ (d i (omega arith)) t))))
+sought_from Bad f n d i zero e b = λ j l. b j (omega arith)
+sought_from Bad f n d i (suc k) e b =
+    ⊎_elim (λ t. rw t (record { below = omega arith; bad = yes _ _ (d i (omega arith)) t; before = b }))
+    (λ t. rw t (sought_from Bad f n d (i + 1) k (omega arith) (one_more Bad i b (no _ _ (d i (omega arith)) t))))
     (decided (f i))
 
-pub seeks : (Bad : ℕ → Type 0) (f : ℕ → Bool) (n : ℕ) → ((j : ℕ) → j < n → Decides (Bad j) (f j)) → Seeks Bad n (seek f n)
-seeks Bad f n d = seeks_from Bad f n d 0 n (omega arith) (none_yet Bad)
+pub sought : (Bad : ℕ → Type 0) (f : ℕ → Bool) (n : ℕ) → ((j : ℕ) → j < n → Decides (Bad j) (f j)) → Sought Bad n (seek f n)
+sought Bad f n d = sought_from Bad f n d 0 n (omega arith) (none_yet Bad)
 
 -- ---- numbers
 range_decides : (low high z : ℤ) → Decides (Between low high z) (ranged low z high)
@@ -104,83 +105,106 @@ meet_decides r i j h =
     (truth (Share (from r i) (to r i) (from r j) (to r j)) (edges_share r i j) (shares_decides (from r i) (to r i) (from r j) (to r j)) m.share))
 
 -- ---- the searches of a footprint
-abbrev pub stray_of : List ℤ → ℕ
+abbrev pub stray_of : List ℤ → Option ℕ
 stray_of l = seek (λ j. not (reaches (get_or l j (pos 0)))) (length l)
 
-abbrev pub same_of : Ring → ℕ
+abbrev pub same_of : Ring → Option ℕ
 same_of r = seek (λ i. equal (from r i) (to r i)) r.size
 
-abbrev pub fold_of : Ring → ℕ
+abbrev pub fold_of : Ring → Option ℕ
 fold_of r = seek (λ i. bends (r.at (back r.size i)) (r.at i) (to r i)) r.size
 
-abbrev pub row_of : Ring → ℕ → ℕ
+-- the first edge that meets edge i
+abbrev pub row_of : Ring → ℕ → Option ℕ
 row_of r i = seek (meet_flag r i) r.size
 
-abbrev pub pair_of : Ring → ℕ
-pair_of r = seek (λ i. ltb (row_of r i) r.size) r.size
+abbrev pub is_some : Option ℕ → Bool
+is_some None = false
+is_some (Some j) = true
 
-stray_seeks : (l : List ℤ) → Seeks (Stray l) (length l) (stray_of l)
-stray_seeks l = seeks (Stray l) _ (length l) (λ j h. other (Reach (get_or l j (pos 0))) (reaches (get_or l j (pos 0))) (reach_decides (get_or l j (pos 0))))
+abbrev pub beside : ℕ → Option ℕ → Option (ℕ × ℕ)
+beside i None = None
+beside i (Some j) = Some (i, j)
 
-same_seeks : (r : Ring) → Seeks (Same r) r.size (same_of r)
-same_seeks r = seeks (Same r) _ r.size (λ i b. equal_decides (from r i) (to r i))
+abbrev pub first_row : Option ℕ → (ℕ → Option ℕ) → Option (ℕ × ℕ)
+first_row None row = None
+first_row (Some i) row = beside i (row i)
 
-fold_seeks : (r : Ring) → Seeks (Bend r) r.size (fold_of r)
-fold_seeks r = seeks (Bend r) _ r.size (λ i b. bends_decides (r.at (back r.size i)) (r.at i) (to r i))
+abbrev pub pair_of : Ring → Option (ℕ × ℕ)
+pair_of r = first_row (seek (λ i. is_some (row_of r i)) r.size) (row_of r)
+
+module _ (l : List ℤ) where
+  stray_sought : Sought (Stray l) (length l) (stray_of l)
+  stray_sought = sought (Stray l) _ (length l) (λ j h. other (Reach (get_or l j (pos 0))) (reaches (get_or l j (pos 0))) (reach_decides (get_or l j (pos 0))))
+
+  same_sought : Sought (Same (ring l)) (ring l).size (same_of (ring l))
+  same_sought = sought (Same (ring l)) _ (ring l).size (λ i b. equal_decides (from (ring l) i) (to (ring l) i))
+
+  fold_sought : Sought (Bend (ring l)) (ring l).size (fold_of (ring l))
+  fold_sought = sought (Bend (ring l)) _ (ring l).size (λ i b. bends_decides ((ring l).at (back (ring l).size i)) ((ring l).at i) (to (ring l) i))
 
 module _ (r : Ring) where
-  row_seeks : (i : ℕ) → Seeks (Meet r i) r.size (row_of r i)
-  row_seeks i = seeks (Meet r i) (meet_flag r i) r.size (λ j h. meet_decides r i j h)
+  abbrev Meets : ℕ → Type 0
+  Meets i = (j : ℕ) × Meet r i j
 
-  pair_seeks : Seeks (λ i. Meet r i (row_of r i)) r.size (pair_of r)
-  pair_seeks = seeks _ (λ i. ltb (row_of r i) r.size) r.size (λ i h. decides _ (ltb (row_of r i) r.size) (λ e. (row_seeks i).found (ltb-true _ _ e)) (λ m. lt-ltb _ _ m.below))
+  row_sought : (i : ℕ) → Sought (Meet r i) r.size (row_of r i)
+  row_sought i = sought (Meet r i) (meet_flag r i) r.size (λ j h. meet_decides r i j h)
 
-  -- a row whose first hit is none has none
-  no_row : (i j : ℕ) → (Meet r i (row_of r i) → ⊥) → Meet r i j → ⊥
-  no_row i j f m = ⊎_elim (λ (h : r.size ≤ row_of r i). none_found (row_seeks i) h j m.below m) (λ (h : row_of r i < r.size). f ((row_seeks i).found h)) (ℕ_or r.size (row_of r i))
+  row_decides : (i : ℕ) (o : Option ℕ) → Sought (Meet r i) r.size o → Decides (Meets i) (is_some o)
+  row_decides i None s = λ m. s m.0 m.1.below m.1
+  row_decides i (Some j) s = (j, s.bad)
 
-  pub no_pair : r.size ≤ pair_of r → (i j : ℕ) → Meet r i j → ⊥
-  no_pair h i j m = no_row i j (none_found pair_seeks h i (let a = m.order in let b = m.below in omega arith)) m
+  first_beside : (i : ℕ) → First Meets r.size i → (o : Option ℕ) → Sought (Meet r i) r.size o → FirstPair r (beside i o)
+  first_beside i f None s = absurd (s f.bad.0 f.bad.1.below f.bad.1)
+  first_beside i f (Some j) s = record { meet = s.bad; before = λ h k l m. f.before h l (k, m); then = λ k l m. s.before k l m }
 
-  pub first_pair : pair_of r < r.size → FirstMeet r (pair_of r) (row_of r (pair_of r))
-  first_pair h = record {
-    meet = pair_seeks.found h;
-    before = λ i j a m. no_row i j (pair_seeks.before i a (omega arith)) m;
-    then = λ j a m. (row_seeks (pair_of r)).before j a m.below m;
-  }
+  first_of_rows : (o : Option ℕ) → Sought Meets r.size o → FirstPair r (first_row o (row_of r))
+  first_of_rows None s = λ i j m. let a = m.order in let b = m.below in s i (omega arith) (j, m)
+  first_of_rows (Some i) s = first_beside i s (row_of r i) (row_sought i)
+
+  pub first_pair : FirstPair r (pair_of r)
+  first_pair = first_of_rows _ (sought Meets (λ i. is_some (row_of r i)) r.size (λ i h. row_decides i (row_of r i) (row_sought i)))
 
 -- ---- the answers
-abbrev pub pick : ℕ → ℕ → Checked → Checked → Checked
-pick k n bad good = cond (ltb k n) bad good
+-- what was found is refused
+abbrev pub pick : Option ℕ → (ℕ → Refusal) → Checked → Checked
+pick None x fine = fine
+pick (Some i) x fine = Err (x i)
 
-pick_finds : (cs : List Check) (k n : ℕ) (bad fine : Checked) → (k < n → Finds cs bad) → (n ≤ k → Finds cs fine) → Finds cs (pick k n bad fine)
-pick_finds cs k n bad fine f g = ⊎_elim (λ (h : n ≤ k). rw (le-ltb k n h) (g h)) (λ (h : k < n). rw (lt-ltb k n h) (f h)) (ℕ_or n k)
+abbrev pub pick_pair : Option (ℕ × ℕ) → Checked → Checked
+pick_pair None fine = fine
+pick_pair (Some p) fine = Err (refusal.Meet p.0 p.1)
+
+pick_finds : (cs : List Check) (Bad : ℕ → Type 0) (n : ℕ) (o : Option ℕ) (x : ℕ → Refusal) (fine : Checked) → Sought Bad n o
+    → ((i : ℕ) → First Bad n i → Fault cs (said (x i))) → (((j : ℕ) → j < n → Bad j → ⊥) → Finds cs fine) → Finds cs (pick o x fine)
+pick_finds cs Bad n None x fine s f g = g s
+pick_finds cs Bad n (Some i) x fine s f g = f i s
+
+pick_pair_finds : (cs : List Check) (r : Ring) (o : Option (ℕ × ℕ)) (fine : Checked) → FirstPair r o
+    → ((i j : ℕ) → FirstMeet r i j → Fault cs (said (refusal.Meet i j))) → (((i j : ℕ) → Meet r i j → ⊥) → Finds cs fine) → Finds cs (pick_pair o fine)
+pick_pair_finds cs r None fine s f g = g s
+pick_pair_finds cs r (Some p) fine s f g = f p.0 p.1 s
 
 unfoldable pub shape_of : List ℤ → Checked
 shape_of l =
-    pick (stray_of l) (length l) (Err (refusal.Reach (12 + 2 * stray_of l)))
-    (pick (same_of (ring l)) (ring l).size (Err (refusal.Same (same_of (ring l))))
-    (pick (fold_of (ring l)) (ring l).size (Err (refusal.Fold (fold_of (ring l))))
-    (pick (pair_of (ring l)) (ring l).size (Err (refusal.Meet (pair_of (ring l)) (row_of (ring l) (pair_of (ring l)))))
-    (cond (lt_z (pos 0) (area (ring l) (ring l).size)) (Ok tt) (Err refusal.Clockwise)))))
+    pick (stray_of l) (λ j. refusal.Reach (12 + 2 * j))
+    (pick (same_of (ring l)) refusal.Same
+    (pick (fold_of (ring l)) refusal.Fold
+    (pick_pair (pair_of (ring l)) (cond (lt_z (pos 0) (area (ring l) (ring l).size)) (Ok tt) (Err refusal.Clockwise)))))
 
 shape_finds : (l : List ℤ) → Finds (shape_checks l) (shape_of l)
 unfolding shape_of
 shape_finds l =
-    pick_finds _ _ _ _ _ (λ h. found_stray l _ (inl (_, first_found (stray_seeks l) h, refl)))
-    (λ s. let reach = none_found (stray_seeks l) s in
-    pick_finds _ _ _ _ _ (λ h. found_same l reach _ (first_found (same_seeks (ring l)) h))
-    (λ e. let distinct = none_found (same_seeks (ring l)) e in
-    pick_finds _ _ _ _ _ (λ h. found_fold l reach distinct _ (first_found (fold_seeks (ring l)) h))
-    (λ f. let unbent = none_found (fold_seeks (ring l)) f in
-    pick_finds _ _ _ _ _ (λ h. found_meet l reach distinct unbent _ _ (first_pair (ring l) h))
-    (λ m. last reach distinct unbent (no_pair (ring l) m) (lt_z (pos 0) (area (ring l) (ring l).size)) refl))))
+    pick_finds _ _ _ _ _ _ (stray_sought l) (λ j f. found_stray l _ (inl (j, f, refl)))
+    (λ s. pick_finds _ _ _ _ _ _ (same_sought l) (found_same l s)
+    (λ e. pick_finds _ _ _ _ _ _ (fold_sought l) (found_fold l s e)
+    (λ f. pick_pair_finds _ _ _ _ (first_pair (ring l)) (found_meet l s e f) (λ m. last s e f m (lt_z (pos 0) (area (ring l) (ring l).size)) refl))))
   where
     last : ((j : ℕ) → j < length l → Stray l j → ⊥) → ((j : ℕ) → j < (ring l).size → Same (ring l) j → ⊥) → ((j : ℕ) → j < (ring l).size → Bend (ring l) j → ⊥)
         → ((i j : ℕ) → Meet (ring l) i j → ⊥) → (t : Bool) → lt_z (pos 0) (area (ring l) (ring l).size) ≡ t
         → Finds (shape_checks l) (cond t (Ok tt) (Err refusal.Clockwise))
-    last reach distinct unbent m true q = found_good l reach distinct unbent m (lt_true _ _ q)
-    last reach distinct unbent m false q = found_clockwise l reach distinct unbent m (lt_false _ _ q)
+    last s e f m true q = found_good l s e f m (lt_true _ _ q)
+    last s e f m false q = found_clockwise l s e f m (lt_false _ _ q)
 
 abbrev pub sized_flag : List ℤ → Bool
 sized_flag l = eqb (length l % 2) 0 && (leb 3 (length l / 2) && leb (length l / 2) 64)
@@ -222,22 +246,21 @@ band_decides k (suc (suc zero)) = speed_decides k.speed.x
 band_decides k (suc (suc (suc zero))) = speed_decides k.speed.y
 band_decides k (suc (suc (suc (suc n)))) = speed_decides k.speed.z
 
-abbrev pub band_of : Piece → ℕ
+abbrev pub band_of : Piece → Option ℕ
 band_of k = seek (λ j. not (band_flag k j)) 5
 
 unfoldable pub judge : Piece → Checked
-judge k = cond (sized_flag k.corners) (pick (band_of k) 5 (Err (refusal.Reach (2 + 2 * band_of k))) (shape_of k.corners)) (Err refusal.Corners)
+judge k = cond (sized_flag k.corners) (pick (band_of k) (λ j. refusal.Reach (2 + 2 * j)) (shape_of k.corners)) (Err refusal.Corners)
 
 pub judge_right : (k : Piece) → Finds (piece_checks k) (judge k)
 unfolding judge piece_checks sized_check band_check
 judge_right k = go (sized_flag k.corners) (sized_decides k.corners)
   where
-    slab : Seeks (λ j. BandNumber k j → ⊥) 5 (band_of k)
-    slab = seeks _ _ 5 (λ j h. other (BandNumber k j) (band_flag k j) (band_decides k j))
+    slab : Sought (λ j. BandNumber k j → ⊥) 5 (band_of k)
+    slab = sought _ _ 5 (λ j h. other (BandNumber k j) (band_flag k j) (band_decides k j))
 
-    go : (t : Bool) → Decides (Sized k.corners) t → Finds (piece_checks k) (cond t (pick (band_of k) 5 (Err (refusal.Reach (2 + 2 * band_of k))) (shape_of k.corners)) (Err refusal.Corners))
-    go true h = pick_finds (piece_checks k) (band_of k) 5 _ _ (λ a. inr (h, inl (_, first_found slab a, refl)))
-        (λ a. piece_finds k (shape_of k.corners) h (none_found slab a) (shape_finds k.corners))
+    go : (t : Bool) → Decides (Sized k.corners) t → Finds (piece_checks k) (cond t (pick (band_of k) (λ j. refusal.Reach (2 + 2 * j)) (shape_of k.corners)) (Err refusal.Corners))
+    go true h = pick_finds (piece_checks k) _ _ _ _ _ slab (λ j f. inr (h, inl (j, f, refl))) (λ a. piece_finds k (shape_of k.corners) h a (shape_finds k.corners))
     go false h = inl (h, refl)
 
 -- ---- a place
@@ -249,7 +272,7 @@ point_decides : (p : Pt) (j : ℕ) → Decides (PointNumber p j) (point_flag p j
 point_decides p zero = reach_decides p.x
 point_decides p (suc n) = reach_decides p.y
 
-abbrev pub point_fault : Pt → ℕ
+abbrev pub point_fault : Pt → Option ℕ
 point_fault p = seek (λ j. not (point_flag p j)) 2
 
 abbrev pub placing : Checked → Where → Placed
@@ -259,17 +282,17 @@ placing (Ok _) inside = Ok Inside
 placing (Ok _) outside = Ok Outside
 
 unfoldable pub place_of : Pt → List ℤ → Placed
-place_of p l = placing (pick (point_fault p) 2 (Err (refusal.Reach (2 + 2 * point_fault p))) (footprint_of l)) (place (ring l) p)
+place_of p l = placing (pick (point_fault p) (λ j. refusal.Reach (2 + 2 * j)) (footprint_of l)) (place (ring l) p)
 
 pub place_lies : (p : Pt) (l : List ℤ) → Lies p l (place_of p l)
 unfolding place_of place_checks
-place_lies p l = go (pick (point_fault p) 2 (Err (refusal.Reach (2 + 2 * point_fault p))) (footprint_of l)) (place (ring l) p) found (place_right (ring l) p)
+place_lies p l = go (pick (point_fault p) (λ j. refusal.Reach (2 + 2 * j)) (footprint_of l)) (place (ring l) p) found (place_right (ring l) p)
   where
-    point : Seeks (λ j. PointNumber p j → ⊥) 2 (point_fault p)
-    point = seeks _ _ 2 (λ j h. other (PointNumber p j) (point_flag p j) (point_decides p j))
+    point : Sought (λ j. PointNumber p j → ⊥) 2 (point_fault p)
+    point = sought _ _ 2 (λ j h. other (PointNumber p j) (point_flag p j) (point_decides p j))
 
-    found : Finds (place_checks p l) (pick (point_fault p) 2 (Err (refusal.Reach (2 + 2 * point_fault p))) (footprint_of l))
-    found = pick_finds (place_checks p l) (point_fault p) 2 _ _ (λ a. inl (_, first_found point a, refl)) (λ a. place_finds p l (footprint_of l) (none_found point a) (footprint_right l))
+    found : Finds (place_checks p l) (pick (point_fault p) (λ j. refusal.Reach (2 + 2 * j)) (footprint_of l))
+    found = pick_finds (place_checks p l) _ _ _ _ _ point (λ j f. inl (j, f, refl)) (λ a. place_finds p l (footprint_of l) a (footprint_right l))
 
     go : (c : Checked) (w : Where) → Finds (place_checks p l) c → Place (ring l) p w → Lies p l (placing c w)
     go (Err r) w f h = f
@@ -296,18 +319,18 @@ run_decides r (suc (suc (suc (suc zero)))) = speed_decides r.speed.y
 run_decides r (suc (suc (suc (suc (suc zero))))) = speed_decides r.speed.z
 run_decides r (suc (suc (suc (suc (suc (suc n)))))) = decides _ (leb r.ticks 4096) (leb-true r.ticks 4096) (le-leb r.ticks 4096)
 
-abbrev pub run_fault : Run → ℕ
+abbrev pub run_fault : Run → Option ℕ
 run_fault r = seek (λ j. not (run_flag r j)) 7
 
 unfoldable pub run_of : Run → Checked
-run_of r = pick (run_fault r) 7 (Err (refusal.Reach (2 + 2 * run_fault r))) (Ok tt)
+run_of r = pick (run_fault r) (λ j. refusal.Reach (2 + 2 * j)) (Ok tt)
 
 run_right : (r : Run) → Finds (run_checks r) (run_of r)
 unfolding run_of run_checks
-run_right r = pick_finds (run_checks r) (run_fault r) 7 _ _ (λ a. inl (_, first_found run a, refl)) (λ a. (none_found run a, tt))
+run_right r = pick_finds (run_checks r) _ _ _ _ _ run (λ j f. inl (j, f, refl)) (λ a. (a, tt))
   where
-    run : Seeks (λ j. RunNumber r j → ⊥) 7 (run_fault r)
-    run = seeks _ _ 7 (λ j h. other (RunNumber r j) (run_flag r j) (run_decides r j))
+    run : Sought (λ j. RunNumber r j → ⊥) 7 (run_fault r)
+    run = sought _ _ 7 (λ j h. other (RunNumber r j) (run_flag r j) (run_decides r j))
 
 abbrev pub telling : Checked → Checked → Answer → Verdict
 telling (Err x) c a = Err x
