@@ -1,6 +1,7 @@
 -- What is good and where a point lies, computed: the answers that the public calls must give. Assumes nothing.
 use Rattle.std.specs.Prelude.{Option, Ok, Err, Some, None}
 use Rattle.piece.specs.declared.spot.Spot.TheVariants.{On, Inside, Outside}
+use Rattle.std.specs.Option.{is_some, option_map, option_and_then}
 use mathlib.Core.Path.{◌≡◌, refl}
 use mathlib.Core.Bool.{Bool, true, false, not, cond, ◌&&◌, ◌||◌}
 use mathlib.Core.Logic.{inl, inr, ⊎_elim}
@@ -118,20 +119,8 @@ fold_of r = seek (λ i. bends (r.at (back r.size i)) (r.at i) (to r i)) r.size
 abbrev pub row_of : Ring → ℕ → Option ℕ
 row_of r i = seek (meet_flag r i) r.size
 
-abbrev pub is_some : Option ℕ → Bool
-is_some None = false
-is_some (Some j) = true
-
-abbrev pub beside : ℕ → Option ℕ → Option (ℕ × ℕ)
-beside i None = None
-beside i (Some j) = Some (i, j)
-
-abbrev pub first_row : Option ℕ → (ℕ → Option ℕ) → Option (ℕ × ℕ)
-first_row None row = None
-first_row (Some i) row = beside i (row i)
-
 abbrev pub pair_of : Ring → Option (ℕ × ℕ)
-pair_of r = first_row (seek (λ i. is_some (row_of r i)) r.size) (row_of r)
+pair_of r = option_and_then (λ i. option_map (λ j. (i, j)) (row_of r i)) (seek (λ i. is_some (row_of r i)) r.size)
 
 module _ (l : List ℤ) where
   stray_sought : Sought (Stray l) (length l) (stray_of l)
@@ -154,11 +143,11 @@ module _ (r : Ring) where
   row_decides i None s = λ m. s m.0 m.1.below m.1
   row_decides i (Some j) s = (j, s.bad)
 
-  first_beside : (i : ℕ) → First Meets r.size i → (o : Option ℕ) → Sought (Meet r i) r.size o → FirstPair r (beside i o)
+  first_beside : (i : ℕ) → First Meets r.size i → (o : Option ℕ) → Sought (Meet r i) r.size o → FirstPair r (option_map (λ j. (i, j)) o)
   first_beside i f None s = absurd (s f.bad.0 f.bad.1.below f.bad.1)
   first_beside i f (Some j) s = record { meet = s.bad; before = λ h k l m. f.before h l (k, m); then = λ k l m. s.before k l m }
 
-  first_of_rows : (o : Option ℕ) → Sought Meets r.size o → FirstPair r (first_row o (row_of r))
+  first_of_rows : (o : Option ℕ) → Sought Meets r.size o → FirstPair r (option_and_then (λ i. option_map (λ j. (i, j)) (row_of r i)) o)
   first_of_rows None s = λ i j m. let a = m.order in let b = m.below in s i (omega arith) (j, m)
   first_of_rows (Some i) s = first_beside i s (row_of r i) (row_sought i)
 
