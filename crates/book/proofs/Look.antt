@@ -1,22 +1,18 @@
 -- The bytes of an entry, one by one, and the code of a sound slot. Assumes nothing.
-use Rattle.std.specs.Prelude.{Some, None}
+use Rattle.std.specs.Prelude.{None}
 use mathlib.Core.Path.{◌≡◌, sym, ap, ◌∙◌}
 use mathlib.Core.Logic.{⊎_elim}
 use mathlib.Core.List.{List, ◌++◌}
 use Prim.Native.Nat.{ℕ, ◌+◌, ◌*◌, ◌/◌, ◌%◌, ◌≤◌, ◌<◌}
 use native.Mathlib.Omega.{arith}
-use lib.ListN.{length, take, length-append, length-take, get_or-append, get_or-eq_default}
+use lib.ListN.{length, length-append, get_or-append, get_or-eq_default}
 use lib.Seq.{get_or-append-add}
 use Rattle.rules.specs.Reach.{Run}
 use Rattle.seal.specs.Seal.{byte, block_of}
-use Rattle.seal.proofs.Bytes.{filled_length, block_at}
+use Rattle.seal.proofs.Bytes.{block_at}
 use Rattle.rules.specs.Verdict.{NONE}
-use Rattle.book.specs.Entry.{code_at, code_end, four, Possible}
-use Rattle.book.specs.Steps.{CodeBytes, Cut, first_bytes, SoundAfter, Recalls}
-
-pub first_bytes_length : (front : List ℕ) (end : ℕ) → Cut front end → length (first_bytes front end) ≡ code_at
-unfolding first_bytes
-first_bytes_length front end u = let w = u.within in filled_length code_at (take end front) (omega (arith, length-take end front))
+use Rattle.book.specs.Entry.{code_at, code_end, four}
+use Rattle.book.specs.Steps.{CodeBytes, SoundAfter, Recalls}
 
 -- ---- four bytes and their number
 pub code_of : (c : ℕ) → c < 4294967296 → c ≡ c % 256 + 256 * (c / 256 % 256) + 65536 * (c / 256 / 256 % 256) + 16777216 * (c / 256 / 256 / 256 % 256)
@@ -60,6 +56,3 @@ module _ (slot front : List ℕ) (r : Run) (n : length front ≡ code_at) where
 
     pub other : (slot ≡ block_of (front ++ four code) → ⊥) → Recalls slot front r None
     other u c s = u (s.same ∙ ap (λ (m : ℕ). block_of (front ++ four m)) (its_code c s))
-
-    pub sound : code < 4294967296 → Possible r.ticks code → slot ≡ block_of (front ++ four code) → Recalls slot front r (Some code)
-    sound f p q = record { fits = f; possible = p; same = q }

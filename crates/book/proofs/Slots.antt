@@ -5,7 +5,7 @@ use mathlib.Core.List.{List, ◌++◌}
 use Prim.Native.Nat.{ℕ, suc, ◌+◌, ◌*◌, ◌-◌, ◌%◌, ◌≤◌, ◌<◌}
 use native.Mathlib.Nat.{mod-lt}
 use native.Mathlib.Omega.{arith}
-use lib.ListN.{length, take, drop}
+use lib.ListN.{length, take, drop, take-append-drop}
 use lib.Seq.{ext_get_or, drop-drop}
 use Rattle.whole.proofs.Order.{ℕ_or}
 use Rattle.seal.specs.Seal.{byte, block_at}
@@ -21,8 +21,13 @@ put_mid b i s =
     ap (λ (l : List ℕ). take (512 * i) b ++ (s ++ l)) (sym (drop-drop 512 (512 * i) b ∙ ap (λ n. drop n b) e))
 
 -- as code puts it: from 512·i to 512·i + 512
-pub part_put : (b : List ℕ) (i : ℕ) (s t : List ℕ) → s ≡ t → mid (512 * i) (512 * i + 512 - 512 * i) b s ≡ put b i t
-part_put b i s t e = ap (λ n. mid (512 * i) n b s) (nth_size i) ∙ ap (λ (l : List ℕ). mid (512 * i) 512 b l) e ∙ sym (put_mid b i t)
+pub part_put : (b : List ℕ) (i : ℕ) (s : List ℕ) → mid (512 * i) (512 * i + 512 - 512 * i) b s ≡ put b i s
+part_put b i s = ap (λ n. mid (512 * i) n b s) (nth_size i) ∙ sym (put_mid b i s)
+
+-- a slot put where it stands changes nothing
+pub put_self : (b : List ℕ) (i : ℕ) → put b i (block_at b i) ≡ b
+unfolding block_at
+put_self b i = put_mid b i (take 512 (drop (512 * i) b)) ∙ ap (λ (l : List ℕ). take (512 * i) b ++ l) (take-append-drop 512 (drop (512 * i) b)) ∙ take-append-drop (512 * i) b
 
 -- a number modulo the number of slots is that of a slot
 pub slot_in : (b : List ℕ) → Slots b → (n : ℕ) → 512 * suc (n % slots b) ≤ length b

@@ -1,12 +1,13 @@
-// The bytes of an entry: kind, zero and the question, and apart from them the code.
-ghost use Rattle.std.specs.Prelude.{◌≡◌, ◌+◌, ◌%◌, ◌<◌, length};
-ghost use Rattle.good.specs.Numbers.{run_of, piece_of};
+// The first bytes of an entry: kind, zero and the question. The code stands after them.
+ghost use Rattle.std.specs.Prelude.{◌≡◌, ◌+◌, ◌%◌, ◌<◌};
+ghost use Rattle.rules.specs.Refusal.{Passes};
+ghost use Rattle.rules.specs.Good.{run_checks};
 ghost use Rattle.seal.specs.Seal.{byte, sum};
-ghost use Rattle.book.specs.Entry.{key_length, code_at, four};
-ghost use Rattle.book.specs.Steps.{Layable, Begun};
+ghost use Rattle.book.specs.Entry.{key_length};
+ghost use Rattle.book.specs.Steps.{run_in, piece_in, Begun};
 
+use crate::Query;
 use block::write_run_body;
-use good::{Run, Slab};
 use piece_block::write_piece_body;
 
 // Byte 0 of an entry.
@@ -22,41 +23,27 @@ const PIECE: usize = 16;
 pub(crate) const CODE: usize = 2 + KEY;
 
 // Bytes 0 to 282, of every good piece: kind, zero, the run and the piece; answers from where on they are zero.
-pub(crate) fn lay(run: Run, slab: Slab, corners: &[i32], front: &mut [u8]) -> usize
-    requires { Layable (run_of run) front.old }
-    ensures { Begun (run_of run) (piece_of slab corners.now) front.new result }
+pub(crate) fn lay(query: Query, front: &mut [u8; CODE]) -> usize
+    requires { Passes (run_checks (run_in query)) }
+    ensures { Begun (run_in query.entry) (piece_in query.entry) front.new result }
 {
     front[0] = KIND;
     front[1] = 0;
-    write_run_body(run, &mut front[2..PIECE]).unwrap();
-    match write_piece_body(slab, corners, &mut front[PIECE..CODE]) {
+    write_run_body(query.run, &mut front[2..PIECE]).unwrap();
+    match write_piece_body(query.slab, query.corners, &mut front[PIECE..CODE]) {
         Err(_) => PIECE,
-        Ok(()) => PIECE + 11 + 2 * corners.len(),
+        Ok(()) => PIECE + 11 + 2 * query.corners.len(),
     }
 }
 
-// The code, low byte first.
-pub(crate) fn bytes_of(code: u32) -> [u8; 4]
-    ensures { result ≡ four code }
-{
-    [
-        (code % 256) as u8,
-        (code / 256 % 256) as u8,
-        (code / 256 / 256 % 256) as u8,
-        (code / 256 / 256 / 256 % 256) as u8,
-    ]
-}
-
 // The sum of bytes 2 to 282, modulo the number of slots.
-pub(crate) fn home_of(front: &[u8], slots: usize) -> usize
-    requires { (length front.now ≡ code_at) × (0 < slots) }
+pub(crate) fn home_of(front: &[u8; CODE], slots: usize) -> usize
+    requires { 0 < slots }
     ensures { result ≡ sum (λ i. byte front.now (2 + i)) key_length % slots }
 {
     let mut total: u32 = 0;
-    let mut i = 0;
-    while i < KEY {
-        total += front[2 + i] as u32;
-        i += 1;
+    for byte in &front[2..] {
+        total += u32::from(*byte);
     }
     total as usize % slots
 }

@@ -5,15 +5,17 @@
 mod front;
 mod slot;
 
-ghost use Rattle.std.specs.Prelude.{suc, ◌*◌, ◌≤◌, length};
+ghost use Rattle.std.specs.Prelude.{◌≡◌, ◌≤◌, length};
+ghost use Rattle.rules.specs.Refusal.{Passes};
+ghost use Rattle.rules.specs.Good.{run_checks};
 ghost use Rattle.good.specs.Numbers.{run_of, piece_of};
-ghost use Rattle.seal.specs.Seal.{block_size};
-ghost use Rattle.book.specs.Entry.{Slots};
+ghost use Rattle.seal.specs.Seal.{block_size, filled};
+ghost use Rattle.book.specs.Entry.{Slots, code_at};
 ghost use Rattle.book.specs.Ask.{AskSays};
-ghost use Rattle.book.specs.Steps.{Layable, Cut, first_bytes, Works};
+ghost use Rattle.book.specs.Steps.{run_in, piece_in, Works};
 
 use crate::front::{CODE, home_of, lay};
-use crate::slot::{keep, look};
+use crate::slot::{keep, recall};
 use good::{Run, Slab, check_piece, check_run};
 use piece::{coded, verdict};
 use refusal::Refusal;
@@ -26,41 +28,38 @@ pub enum Asked {
     Worked(u32),
 }
 
+// A run and a piece: what a book is asked.
+#[derive(Clone, Copy)]
+pub(crate) struct Query<'a> {
+    pub(crate) run: Run,
+    pub(crate) slab: Slab,
+    pub(crate) corners: &'a [i32],
+}
+
 // The verdict is worked out, and the piece checked, only once.
-fn work(
-    book: &mut [u8],
-    at: usize,
-    front: &[u8],
-    end: usize,
-    run: Run,
-    slab: Slab,
-    corners: &[i32],
-) -> Result<Asked, Refusal>
-    requires { (block_size * suc at ≤ length book.old) × Cut front.now end }
-    ensures { Works book.old book.new at (first_bytes front.now end) (run_of run) (piece_of slab corners.now) result }
+fn work(slot: &mut [u8], first: &[u8], query: Query) -> Result<Asked, Refusal>
+    requires { (length slot.old ≡ block_size) × (length first.now ≤ code_at) }
+    ensures { Works slot.old slot.new (filled code_at first.now) (run_in query.entry) (piece_in query.entry) result }
 {
-    let code = coded(verdict(run, slab, corners))?;
-    keep(book, at, front, end, code);
+    let code = coded(verdict(query.run, query.slab, query.corners))?;
+    keep(slot, first, code);
     Ok(Asked::Worked(code))
 }
 
 // A good run asks: what is remembered is answered only of a good piece.
-fn answer(
-    book: &mut [u8],
-    run: Run,
-    slab: Slab,
-    corners: &[i32],
-    front: &mut [u8],
-) -> Result<Asked, Refusal>
-    requires { Slots book.old × Layable (run_of run) front.old }
-    ensures { AskSays book.old book.new (run_of run) (piece_of slab corners.now) result }
+fn answer(book: &mut [u8], query: Query) -> Result<Asked, Refusal>
+    requires { Slots book.old × Passes (run_checks (run_in query)) }
+    ensures { AskSays book.old book.new (run_in query.entry) (piece_in query.entry) result }
 {
-    let end = lay(run, slab, corners, front);
-    let at = home_of(front, book.len() / SIZE);
-    match look(book, at, front, end, run) {
-        None => work(book, at, front, end, run, slab, corners),
+    let mut front = [0u8; CODE];
+    let end = lay(query, &mut front);
+    let first = &front[..end];
+    let from = SIZE * home_of(&front, book.len() / SIZE);
+    let slot = &mut book[from..from + SIZE];
+    match recall(slot, first, query.run) {
+        None => work(slot, first, query),
         Some(code) => {
-            check_piece(slab, corners)?;
+            check_piece(query.slab, query.corners)?;
             Ok(Asked::Remembered(code))
         }
     }
@@ -82,6 +81,5 @@ pub fn ask(book: &mut [u8], run: Run, slab: Slab, corners: &[i32]) -> Result<Ask
         return Err(Refusal::Length);
     }
     check_run(run)?;
-    let mut front = [0u8; CODE];
-    answer(book, run, slab, corners, &mut front)
+    answer(book, Query { run, slab, corners })
 }

@@ -1,5 +1,5 @@
 -- `book::front::lay` meets its contract: the run's bytes, and then the piece's, which are promised of a good one. Assumes nothing.
-use Rattle.std.proofs.Common.{◌≡◌, ap, ◌∙◌, List, ℕ, arith, length, set, take, drop, length-set}
+use Rattle.std.proofs.Common.{◌≡◌, rules, ap, ◌∙◌, List, ℕ, arith, length, set, take, drop, length-set}
 use Rattle.std.specs.Prelude.{Ok, is_ok}
 use Rattle.rules.specs.Reach.{Run}
 use Rattle.rules.specs.Refusal.{Passes}
@@ -7,7 +7,6 @@ use Rattle.rules.specs.Good.{run_checks}
 use Rattle.rules.proofs.Checks.{never_both}
 use Rattle.refusal.specs.Said.{Checked}
 use Rattle.refusal.proofs.Unique.{written}
-use Rattle.good.specs.Numbers.{run_of, piece_of}
 use Rattle.block.specs.Layout.{run_body_size, run_body}
 use Rattle.block.specs.Reading.{run_body_asked, WriteRunBodySays}
 use Rattle.piece_block.specs.Reading.{piece_body_asked}
@@ -16,6 +15,7 @@ use Rattle.piece_block.proofs.PieceLaws.{good_asked}
 use Rattle.block.proofs.OneFault.{definite_run_body_asked}
 use Rattle.piece_block.proofs.OneFault.{definite_piece_body_asked}
 use Rattle.book.specs.Entry.{kind, piece_at, piece_length, code_at}
+use Rattle.book.specs.Steps.{run_in, piece_in}
 use Rattle.book.proofs.Lay.{headed_length, begin, begin_bad}
 use Rattle.book.proofs.front.lay.Goals as goal
 
@@ -46,19 +46,19 @@ module _ (r : Run) (front bytes : List ℕ) (z : length front ≡ code_at) (good
 
 pub unwrap-requires : goal.unwrap-requires
 unwrap-requires c =
-    let q = c.requires in let w = c.write_run_body in ap is_ok (done (run_of c.args.run) c.args.front.now w.new.bytes q.long q.good w.result w.ensures).0
+    let q = c.requires in let w = c.write_run_body in ap is_ok (done (run_in c.args.query) c.args.front.now w.new.bytes (search rules) q w.result w.ensures).0
 
 pub returns-in-Err : goal.returns-in-Err
 returns-in-Err c =
-    let a = c.args in let q = c.requires in let w = c.write_run_body in let r = run_of a.run in let k = piece_of a.slab a.corners.now in
-    let part = part_2 r a.front.now w.new.bytes q.long q.good w.result w.ensures in
-    let n = part_2_long r a.front.now w.new.bytes q.long q.good w.result w.ensures in
+    let a = c.args in let q = c.requires in let w = c.write_run_body in let r = run_in a.query in let k = piece_in a.query in
+    let part = part_2 r a.front.now w.new.bytes (search rules) q w.result w.ensures in
+    let n = part_2_long r a.front.now w.new.bytes (search rules) q w.result w.ensures in
     begin_bad _ k _ (λ p. never_both (piece_body_asked part k) (definite_piece_body_asked part k) _ (good_asked k p part n) c.in-Err.ensures.0)
 
 pub returns-in-Ok : goal.returns-in-Ok
 unfolding piece_body_asked
 returns-in-Ok c =
-    let a = c.args in let q = c.requires in let w = c.write_run_body in let v = c.write_piece_body in let r = run_of a.run in let t = c.in-Ok.ensures in
-    let b = laid r a.front.now w.new.bytes q.long q.good w.result w.ensures in
-    let n = part_2_long r a.front.now w.new.bytes q.long q.good w.result w.ensures in
-    begin r a.front.now w.new.bytes q.long b (piece_of a.slab a.corners.now) v.new.bytes (v.auto.bytes ∙ n) t.1 t.0.1.0.most _ (omega arith)
+    let a = c.args in let q = c.requires in let w = c.write_run_body in let v = c.write_piece_body in let r = run_in a.query in let t = c.in-Ok.ensures in
+    let b = laid r a.front.now w.new.bytes (search rules) q w.result w.ensures in
+    let n = part_2_long r a.front.now w.new.bytes (search rules) q w.result w.ensures in
+    begin r a.front.now w.new.bytes (search rules) b (piece_in a.query) v.new.bytes (v.auto.bytes ∙ n) t.1 t.0.1.0.most _ (omega arith)
