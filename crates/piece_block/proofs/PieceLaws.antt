@@ -182,6 +182,10 @@ abbrev pub said_piece : PieceRead → Piece
 said_piece r = piece_of r.slab (take (2 * r.count) r.corners)
 
 module _ (l : List ℕ) (r : PieceRead) (bytes : (i : ℕ) → Fits w8 (byte l i)) (p : Passes (block_checks l ++ piece_bytes l)) (at : PieceAt l r) where
+  -- the corners that were read
+  abbrev ring_read : List ℤ
+  ring_read = take (2 * r.count) r.corners
+
   first : Passes (block_checks l)
   first = passes_left (block_checks l) (piece_bytes l) p
 
@@ -192,7 +196,7 @@ module _ (l : List ℕ) (r : PieceRead) (bytes : (i : ℕ) → Fits w8 (byte l i
   unfolding piece_bytes
   count_good = rw at.count second.1.0
 
-  long : length (take (2 * r.count) r.corners) ≡ 2 * r.count
+  long : length ring_read ≡ 2 * r.count
   long = let c = count_good.most in let e = at.corners.all in length-take-le (2 * r.count) r.corners (omega arith)
 
   zero_at : (j : ℕ) → 12 + 4 * r.count ≤ j → j < body_size → byte l j ≡ 0
@@ -201,10 +205,10 @@ module _ (l : List ℕ) (r : PieceRead) (bytes : (i : ℕ) → Fits w8 (byte l i
       let k = j - (12 + 4 * byte l 1) in let e : 12 + 4 * byte l 1 + k ≡ j = omega (arith, at.count) in
       rw e at (stable (byte l (12 + 4 * byte l 1 + k)) 0 (second.1.1.0 k (omega (arith, at.count))))
 
-  past : (n : ℕ) → 2 * r.count ≤ n → get_or (take (2 * r.count) r.corners) n (pos 0) ≡ pos 0
-  past n g = let h : length (take (2 * r.count) r.corners) ≤ n = omega (arith, long) in get_or-eq_default (take (2 * r.count) r.corners) (pos 0) h
+  past : (n : ℕ) → 2 * r.count ≤ n → get_or ring_read n (pos 0) ≡ pos 0
+  past n g = let h : length ring_read ≤ n = omega (arith, long) in get_or-eq_default ring_read (pos 0) h
 
-  corner_bits : (n : ℕ) → 5 + n < 254 → word (get_or (take (2 * r.count) r.corners) n (pos 0)) ≡ byte l (2 + 2 * (5 + n)) + 256 * byte l (3 + 2 * (5 + n))
+  corner_bits : (n : ℕ) → 5 + n < 254 → word (get_or ring_read n (pos 0)) ≡ byte l (2 + 2 * (5 + n)) + 256 * byte l (3 + 2 * (5 + n))
   corner_bits n h =
       ⊎_elim
       (λ (g : 2 * r.count ≤ n). rw (
@@ -215,7 +219,7 @@ module _ (l : List ℕ) (r : PieceRead) (bytes : (i : ℕ) → Fits w8 (byte l i
       (λ (g : n < 2 * r.count). rw (get_or-take (2 * r.count) r.corners n (pos 0) g) (at.corners.each n g).bits)
       (ℕ_or (2 * r.count) n)
 
-  corner_half : (n : ℕ) → Half (get_or (take (2 * r.count) r.corners) n (pos 0))
+  corner_half : (n : ℕ) → Half (get_or ring_read n (pos 0))
   corner_half n =
       ⊎_elim
       (λ (g : 2 * r.count ≤ n). rw (past n g) zero_half)
@@ -238,17 +242,18 @@ module _ (l : List ℕ) (r : PieceRead) (bytes : (i : ℕ) → Fits w8 (byte l i
   signed (suc (suc (suc (suc zero)))) = at.slab.vz.half
   signed (suc (suc (suc (suc (suc n))))) = corner_half n
 
-  size_is : (ring (take (2 * r.count) r.corners)).size ≡ r.count
+  size_is : (ring ring_read).size ≡ r.count
   size_is = omega (arith, long)
 
-  sized : Sized (take (2 * r.count) r.corners)
+  sized : Sized ring_read
   sized = record { even = omega (arith, long); corners = rw size_is count_good }
 
   same : l ≡ piece_block (said_piece r)
   unfolding block_checks piece_bytes
   same =
-      laid_is l bytes piece_kind (ring (take (2 * r.count) r.corners)).size (piece_numbers (said_piece r)) numbers (let c = count_good.most in omega (arith, long)) first.0 first.1.0 second.0 (sym at.count ∙ sym size_is)
-      ∙ sym (piece_block_lem (said_piece r) (sized_most (take (2 * r.count) r.corners) sized))
+      laid_is l bytes piece_kind (ring ring_read).size (piece_numbers (said_piece r)) numbers (let c = count_good.most in omega (arith, long))
+      first.0 first.1.0 second.0 (sym at.count ∙ sym size_is)
+      ∙ sym (piece_block_lem (said_piece r) (sized_most ring_read sized))
 
   pub piece_in : PieceIn l (said_piece r)
   piece_in = record { signed = signed; sized = sized; same = same }
@@ -265,7 +270,7 @@ module _ (l : List ℕ) (r : PieceRead) (bytes : (i : ℕ) → Fits w8 (byte l i
     count = sym size_is;
     corners =
         sym (take-append-drop (2 * r.count) r.corners)
-        ∙ ap (λ z. take (2 * r.count) r.corners ++ z) (rest ∙ ap (λ n. replicate (128 - n) (pos 0)) (sym long));
+        ∙ ap (λ z. ring_read ++ z) (rest ∙ ap (λ n. replicate (128 - n) (pos 0)) (sym long));
   }
 
 -- ---- a block holds one piece
