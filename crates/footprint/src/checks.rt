@@ -1,18 +1,17 @@
 // The checks of a footprint, in their order.
 ghost use Rattle.std.specs.Prelude.{◌≡◌, true, ℕ, ◌+◌, ◌*◌, ◌-◌, ◌<◌, [], ◌∷◌, length};
-ghost use Rattle.rules.specs.Reach.{Corners};
 ghost use Rattle.rules.specs.Ring.{ring};
-ghost use Rattle.rules.specs.Refusal.{Sought};
-ghost use Rattle.rules.specs.Good.{Sized, Meet, corners_check, shape_checks, footprint_checks};
+ghost use Rattle.rules.specs.Good.{Sized, corners_check, shape_checks, footprint_checks};
 ghost use Rattle.refusal.specs.Said.{Finds, Told};
 ghost use Rattle.whole.specs.Decide.{Decides};
 ghost use Rattle.footprint.specs.Point.{pt};
-ghost use Rattle.footprint.specs.Shape.{HoldsRing, Corner, NumberSays, CornerSays, Draws, Ends, Tabled, edges_share, FirstPair, bends};
+ghost use Rattle.footprint.specs.Shape.{HoldsRing, Corner, NumberSays, CornerSays, Draws, FirstPair, bends};
 
-use crate::extent::{Extent, Interval, apart, fill};
+use crate::edges::Edges;
+use crate::extent::{Extent, Interval, fill};
 use crate::number::{reaches, wide};
 use crate::point::Point;
-use crate::ring::{around, aside, bends, corner, wedge};
+use crate::ring::{around, bends, corner, wedge};
 use refusal::Refusal;
 
 // What one pass over corners within reach finds: the first corner that equals the next, the first with a fold, and twice the area.
@@ -91,53 +90,6 @@ fn draw(l: &[i32], n: usize) -> Result<Drawing, Refusal>
     })
 }
 
-// Where the edges that edge i may meet end.
-fn end(n: usize, i: usize) -> usize
-    requires { Corners n }
-    ensures { Ends n i result }
-{
-    if i == 0 { n - 1 } else { n }
-}
-
-// Whether the edges i and j share a point: most pairs are told apart by their boxes.
-fn shares(l: &[i32], t: &[Extent; 64], n: usize, i: usize, j: usize) -> bool
-    requires { Tabled l.now t.now n × ((i < n) × (j < n)) }
-    ensures { result ≡ edges_share (ring l.now) i j }
-{
-    if apart(t[i], t[j]) {
-        return false;
-    }
-    let (a, b) = (corner(l, i), corner(l, around(n, i + 1)));
-    let (c, d) = (corner(l, j), corner(l, around(n, j + 1)));
-    !aside(a, b, c, d) && !aside(c, d, a, b)
-}
-
-// The first edge that edge i meets. Its neighbours are left out.
-fn first_met(l: &[i32], t: &[Extent; 64], n: usize, i: usize) -> Option<usize>
-    requires { Tabled l.now t.now n × (i < n) }
-    ensures { Sought (Meet (ring l.now) i) n result }
-{
-    for j in i + 2..end(n, i) {
-        if shares(l, t, n, i, j) {
-            return Some(j);
-        }
-    }
-    None
-}
-
-// The first two edges that meet.
-fn first_pair(l: &[i32], t: &[Extent; 64], n: usize) -> Option<(usize, usize)>
-    requires { Tabled l.now t.now n }
-    ensures { FirstPair (ring l.now) result }
-{
-    for i in 0..n {
-        if let Some(j) = first_met(l, t, n, i) {
-            return Some((i, j));
-        }
-    }
-    None
-}
-
 fn first_meet(l: &[i32], n: usize) -> Option<(usize, usize)>
     requires { HoldsRing l.now n × ((j : ℕ) → j < n → Corner l.now j) }
     ensures { FirstPair (ring l.now) result }
@@ -145,7 +97,12 @@ fn first_meet(l: &[i32], n: usize) -> Option<(usize, usize)>
     let none = Interval { low: 0, high: 0 };
     let mut t = [Extent { x: none, y: none }; 64];
     fill(l, n, &mut t);
-    first_pair(l, &t, n)
+    let edges = Edges {
+        corners: l,
+        extents: &t,
+        count: n,
+    };
+    edges.first_pair()
 }
 
 // What a drawing says, and the edges' meetings.

@@ -1,4 +1,4 @@
--- `checks::shares` is edges_share: each of the three tests is the definition's, of the corners that the edges' numbers name. Assumes nothing.
+-- `edges::Edges::shares` is edges_share: each of the three tests is the definition's, of the corners that the edges' numbers name. Assumes nothing.
 use Rattle.std.proofs.Common.{◌≡◌, Bool, not, ◌||◌, ℕ, refl, sym, ap, ◌∙◌}
 use Rattle.rules.specs.Ring.{Pt, Ring, ring, from, to}
 use Rattle.footprint.specs.Point.{pt}
@@ -6,8 +6,8 @@ use Rattle.footprint.specs.Shape.{boxes_apart, aside, edges_share}
 use Rattle.footprint.specs.Table.{extent_of, extents_apart}
 use Rattle.footprint.specs.declared.extent.Extent.{Extent}
 use Rattle.footprint.proofs.Outline.{to_next}
-use Rattle.footprint.proofs.checks.shares.Goals as goal
-use Rattle.footprint.proofs.checks.shares.Goals.{After-apart}
+use Rattle.footprint.proofs.edges.Edges.shares.Goals as goal
+use Rattle.footprint.proofs.edges.Edges.shares.Goals.{After-apart}
 
 -- what each test says of the edges i and j
 abbrev apart_edges : Ring → ℕ → ℕ → Bool
@@ -26,17 +26,17 @@ told r i j d e f = rw (d, e, f)
 box : (r : Ring) (i j : ℕ) (d e : Extent) {a : Bool} → a ≡ extents_apart d e → d ≡ extent_of (from r i) (to r i) → e ≡ extent_of (from r j) (to r j) → a ≡ apart_edges r i j
 box r i j d e q u v = rw (u, v) at q
 
-boxes : (c : After-apart) → c.apart.result ≡ apart_edges (ring c.args.l.now) c.args.i c.args.j
+boxes : (c : After-apart) → c.apart.result ≡ apart_edges (ring c.args.self.corners.now) c.args.i c.args.j
 boxes c =
-    let p = c.requires in
-    box (ring c.args.l.now) c.args.i c.args.j _ _ c.apart.ensures (p.0.boxed c.args.i _ p.1.0) (p.0.boxed c.args.j _ p.1.1)
+    let p = c.args.self.tabled in
+    box (ring c.args.self.corners.now) c.args.i c.args.j _ _ c.apart.ensures (p.boxed c.args.i _ c.requires.0) (p.boxed c.args.j _ c.requires.1)
 
 pub returns-then-not-aside : goal.returns-then-not-aside
 returns-then-not-aside c =
-    let r = ring c.args.l.now in
+    let r = ring c.args.self.corners.now in
     let i = c.args.i in
     let j = c.args.j in
-    let h = c.requires.0.held in
+    let h = c.args.self.tabled.held in
     let b = c.corner-b.ensures ∙ ap r.at (to_next h i c.around.result c.around.ensures) in
     let d = c.corner-d.ensures ∙ ap r.at (to_next h j c.around-2.result c.around-2.ensures) in
     let apart = sym c.if-apart.false ∙ boxes (goal.at.returns-then-not-aside c).After-apart in
@@ -46,10 +46,10 @@ returns-then-not-aside c =
 
 pub returns-else-not-aside : goal.returns-else-not-aside
 returns-else-not-aside c =
-    let r = ring c.args.l.now in
+    let r = ring c.args.self.corners.now in
     let i = c.args.i in
     let j = c.args.j in
-    let h = c.requires.0.held in
+    let h = c.args.self.tabled.held in
     let b = c.corner-b.ensures ∙ ap r.at (to_next h i c.around.result c.around.ensures) in
     let d = c.corner-d.ensures ∙ ap r.at (to_next h j c.around-2.result c.around-2.ensures) in
     let apart = sym c.if-apart.false ∙ boxes (goal.at.returns-else-not-aside c).After-apart in

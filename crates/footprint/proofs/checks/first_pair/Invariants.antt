@@ -1,8 +1,0 @@
--- The loop of `checks::first_pair`: no edge passed meets a later one. Assumes nothing.
-use Rattle.std.proofs.Common.{ℕ, ◌<◌}
-use Rattle.rules.specs.Ring.{ring}
-use Rattle.rules.specs.Good.{Meet}
-use Rattle.footprint.proofs.checks.first_pair.Given as goal
-
-abbrev pub invariant-loop-i : goal.invariant-loop-i
-invariant-loop-i l = (h k : ℕ) → h < l.i → Meet (ring l.l) h k → ⊥
