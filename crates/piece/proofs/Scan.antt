@@ -5,14 +5,18 @@ use mathlib.Core.Logic.{⊎_elim}
 use Prim.Native.Nat.{ℕ, zero, suc, ◌+◌, ◌≤◌, ◌<◌}
 use native.Mathlib.Omega.{arith}
 use native.Mathlib.Numerals.{add-one}
-use lib.IntN.{pos}
+use lib.IntN.{ℤ, pos, negsuc}
+use mir.Syntax.{w64}
+use mir.Val.{SFits, of_z}
+use borrow.Author.Tests.{ne_eqb, lt-leb, le-leb}
+use Rattle.std.proofs.Common.{nat_eq}
 use Rattle.whole.proofs.Order.{ℕ_or}
 use Rattle.whole.proofs.Flag.{or_right}
 use Rattle.rules.specs.Ring.{Pt, Ring, from, to}
 use Rattle.rules.specs.Place.{on, inside, outside}
 use Rattle.decide.specs.Crossing.{xor, flag, parity}
 use Rattle.decide.proofs.Share.{times_one}
-use Rattle.decide.specs.Touch.{is_on, on_some, place, over}
+use Rattle.decide.specs.Touch.{ranged, is_on, on_some, place, over}
 
 -- the line is asked in the box alone
 pub on_boxed : (box line : Bool) → (box && line) ≡ (line && box)
@@ -20,6 +24,12 @@ on_boxed true true = refl
 on_boxed true false = refl
 on_boxed false true = refl
 on_boxed false false = refl
+
+-- on the line, as the code has it
+pub on_line : (z : ℤ) → SFits w64 z → nat_eq (of_z w64 z) 0 ≡ ranged (pos 0) z (pos 0)
+on_line (pos zero) f = refl
+on_line (pos (suc n)) f = rw (ne_eqb (suc n) 0 (λ e. omega arith), lt-leb (suc n) 0 (omega arith), le-leb 0 (suc n) (omega arith))
+on_line (negsuc n) f = let l = f.sfits in ne_eqb _ 0 (λ e. omega arith)
 
 -- as the code has it
 pub differ : (s t : Bool) → not (beq s t) ≡ xor s t

@@ -160,18 +160,18 @@ module _ (d p n w : ℤ) (h : nat_abs d ≤ 510) (i : nat_abs p ≤ 16384) (j : 
   pub along_most : nat_abs (d *ℤ p +ℤ n *ℤ w) ≤ 25067520
   along_most = omega (arith, abs_add (d *ℤ p) (n *ℤ w), abs_mul_le d p 510 16384 h i, abs_mul_le n w 32768 510 j k)
 
-  along_as_read : (P : ℤ → ℤ → ℤ → ℤ → Type 0) → P d p n w → P (word d) (word p) (word n) (word w)
-  along_as_read P q = rw (back d (omega arith), back p (omega arith), back n (omega arith), back w (omega arith)) q
+  along_as_read : (P : ℤ → ℤ → Type 0) → P p w → P (word p) (word w)
+  along_as_read P q = rw (back p (omega arith), back w (omega arith)) q
 
-  pub along_steps : AlongSteps (word d) (word p) (word n) (word w)
-  along_steps = along_as_read AlongSteps (record {
+  pub along_steps : AlongSteps d (word p) n (word w)
+  along_steps = along_as_read (λ p w. AlongSteps d p n w) (record {
     first = product d p (omega arith) (omega arith);
     second = product n w (omega arith) (omega arith);
     all = fit _ (omega (arith, along_most));
   })
 
-  pub along_said : (r : ℤ) → r ≡ word d *ℤ word p +ℤ word n *ℤ word w → r ≡ d *ℤ p +ℤ n *ℤ w
-  along_said r = along_as_read (λ d' p' n' w'. r ≡ d' *ℤ p' +ℤ n' *ℤ w' → r ≡ d *ℤ p +ℤ n *ℤ w) (λ e. e)
+  pub along_said : (r : ℤ) → r ≡ d *ℤ word p +ℤ n *ℤ word w → r ≡ d *ℤ p +ℤ n *ℤ w
+  along_said r = along_as_read (λ p' w'. r ≡ d *ℤ p' +ℤ n *ℤ w' → r ≡ d *ℤ p +ℤ n *ℤ w) (λ e. e)
 
 -- ---- the first mark within a span, by its tests
 module _ (r : Ring) (p w : Pt) (s : Span) where

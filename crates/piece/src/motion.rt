@@ -1,9 +1,9 @@
 // When a point that runs meets a footprint that stands.
 // Definitions: the crate `decide`, Touch; specs/Seen.antt says which point and which span the structs are.
-ghost use Rattle.std.specs.Prelude.{◌≡◌, [], ◌-ℤ◌, ◌+ℤ◌, ◌*ℤ◌};
+ghost use Rattle.std.specs.Prelude.{◌≡◌};
 ghost use Rattle.rules.specs.Ring.{ring};
 ghost use Rattle.good.specs.Numbers.{pt};
-ghost use Rattle.piece.specs.Sizes.{Close, Slow, Tame, AlongSteps};
+ghost use Rattle.piece.specs.Sizes.{Close, Slow, Tame};
 ghost use Rattle.piece.specs.Tells.{Marks, earlier};
 
 use crate::corners::Corners;
@@ -36,14 +36,6 @@ fn earlier(a: Option<u32>, b: Option<u32>) -> Option<u32>
         (Some(a), Some(b)) => Some(a.min(b)),
         (a, b) => a.or(b),
     }
-}
-
-// A coordinate at the moment n/d, over d.
-fn along(d: i64, p: i64, n: i64, w: i64) -> i64
-    requires { AlongSteps d p n w }
-    ensures { result ≡ d *ℤ p +ℤ n *ℤ w }
-{
-    d * p + n * w
 }
 
 impl Motion {
@@ -131,8 +123,8 @@ impl Motion {
         ensures { where_of result ≡ place (over s.low.d (ring l.entry.list.now)) (start_point (pt_of self.start) (pt_of self.speed) (span_of s)) }
     {
         let p = Point {
-            x: along(s.low.d, self.start.x, s.low.n, self.speed.x),
-            y: along(s.low.d, self.start.y, s.low.n, self.speed.y),
+            x: s.low.along(self.start.x, self.speed.x),
+            y: s.low.along(self.start.y, self.speed.y),
         };
         place_at(l, p, s.low.d)
     }

@@ -1,8 +1,8 @@
 // Spans of moments between two fractions, and clipping them by linear inequalities.
 // Definitions: the crate `decide`, Span; specs/Sizes.antt says of which size they are.
-ghost use Rattle.std.specs.Prelude.{◌≡◌, true, pos, ◌*ℤ◌, ◌≤ℤ◌};
+ghost use Rattle.std.specs.Prelude.{◌≡◌, true, pos, ◌+ℤ◌, ◌*ℤ◌, ◌≤ℤ◌};
 ghost use Rattle.std.specs.Int.Signed.{quot_z, lt_z};
-ghost use Rattle.piece.specs.Sizes.{Sized, Slope, MarkSteps, Flat};
+ghost use Rattle.piece.specs.Sizes.{Sized, Slope, AlongSteps, MarkSteps, Flat};
 
 use footprint::{least, most};
 
@@ -19,6 +19,14 @@ impl Moment {
         ensures { result ≡ lt_z (self.n *ℤ t.d) (t.n *ℤ self.d) }
     {
         self.n * t.d < t.n * self.d
+    }
+
+    // A coordinate p, moving at w, at the moment, over d.
+    pub(crate) fn along(self, p: i64, w: i64) -> i64
+        requires { AlongSteps self.d p self.n w }
+        ensures { result ≡ self.d *ℤ p +ℤ self.n *ℤ w }
+    {
+        self.d * p + self.n * w
     }
 
     // The mark of the moment: 256 parts to a tick, rounded down.

@@ -11,7 +11,7 @@ ghost use Rattle.piece.specs.Seen.{pt_of};
 
 use crate::corners::Corners;
 use crate::point::Point;
-use footprint::{least, less, most, ranged, wide};
+use footprint::{least, most, ranged, wide};
 
 // Where a point lies.
 #[derive(Clone, Copy, PartialEq, Eq)]
@@ -41,16 +41,16 @@ fn in_box(a: Point, b: Point, p: Point) -> bool
 fn is_on(a: Point, b: Point, p: Point) -> bool
     ensures { result ≡ is_on (pt_of p) (pt_of a) (pt_of b) }
 {
-    in_box(a, b, p) && ranged(0, p.side(a, b), 0)
+    in_box(a, b, p) && p.side(a, b) == 0
 }
 
 // Whether the edge a b is counted for p: a product is needed only where exactly one end is not past p.
 fn is_counted(a: Point, b: Point, p: Point) -> bool
     ensures { result ≡ crosses (pt_of a) (pt_of b) (pt_of p) }
 {
-    match (less(p.x, a.x), less(p.x, b.x)) {
-        (true, false) => less(0, p.side(a, b)),
-        (false, true) => less(p.side(a, b), 0),
+    match (p.x < a.x, p.x < b.x) {
+        (true, false) => 0 < p.side(a, b),
+        (false, true) => p.side(a, b) < 0,
         _ => false,
     }
 }

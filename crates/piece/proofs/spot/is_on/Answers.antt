@@ -3,12 +3,13 @@ use mathlib.Core.Path.{◌≡◌, ◌∙◌}
 use mathlib.Core.Bool.{Bool, ◌&&◌}
 use lib.IntN.{pos}
 use mir.Syntax.{w64}
-use Rattle.whole.proofs.Range.{read}
+use mir.Val.{of_z}
+use Rattle.std.proofs.Common.{nat_eq}
 use Rattle.rules.specs.Ring.{Pt}
 use Rattle.decide.specs.Side.{side_of}
 use Rattle.decide.specs.Touch.{least, most, ranged}
 use Rattle.piece.specs.Seen.{pt_of}
-use Rattle.piece.proofs.Scan.{on_boxed}
+use Rattle.piece.proofs.Scan.{on_boxed, on_line}
 use Rattle.piece.proofs.spot.is_on.Goals as goal
 
 abbrev line : Pt → Pt → Pt → Bool
@@ -22,8 +23,8 @@ returns-then-in_box c =
     let a = pt_of c.args.a in
     let b = pt_of c.args.b in
     let p = pt_of c.args.p in
-    let said : c.ranged.result ≡ line a b p = c.ranged.ensures ∙ rw (read w64 c.side.type_inv c.side.ensures) in
-    let e : c.ranged.result ≡ (box a b p && line a b p) = rw (← c.in_box.ensures, c.if-in_box.true) said in
+    let said : nat_eq (of_z w64 c.side.result) 0 ≡ line a b p = rw (← c.side.ensures) (on_line c.side.result (record { sfits = c.side.type_inv })) in
+    let e : nat_eq (of_z w64 c.side.result) 0 ≡ (box a b p && line a b p) = rw (← c.in_box.ensures, c.if-in_box.true) said in
     e ∙ on_boxed (box a b p) (line a b p)
 
 pub returns-else-in_box : goal.returns-else-in_box
