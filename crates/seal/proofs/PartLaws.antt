@@ -60,7 +60,10 @@ module _ (first last : List ℕ) (at : ℕ) (fit : PartsFit first last at) where
     over_at i =
         ⊎_elim
         (λ (q : length first ≤ i). let d : length first + (i - length first) ≡ i = omega arith in
-        rw d at (get_or-append-add first (drop (length first) (replicate k 0)) (i - length first) 0 ∙ get_or-drop (length first) (replicate k 0) (i - length first) 0 ∙ repeated 0 k (length first + (i - length first)))
+        rw d at
+        (get_or-append-add first (drop (length first) (replicate k 0)) (i - length first) 0
+        ∙ get_or-drop (length first) (replicate k 0) (i - length first) 0
+        ∙ repeated 0 k (length first + (i - length first)))
         ∙ sym (get_or-eq_default first 0 {n = i} q))
         (λ (q : i < length first). get_or-append first (drop (length first) (replicate k 0)) 0 i q)
         (ℕ_or (length first) i)

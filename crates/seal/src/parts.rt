@@ -57,8 +57,7 @@ impl<'a> Parts<'a> {
     }
 
     // Whether the first 510 bytes are theirs.
-    fn hold(self, block: &[u8]) -> bool
-        requires { length block.now ≡ block_size }
+    fn hold(self, block: &[u8; SIZE]) -> bool
         ensures { Decides (Alike block.now (filled self.entry.at self.entry.first.now ++ self.entry.last.now)) result }
     {
         padded(&block[..self.at], self.first) && padded(&block[self.at..BODY], self.last)
@@ -84,9 +83,9 @@ pub fn write_parts(first: &[u8], last: &[u8], at: usize, block: &mut [u8]) -> Re
 pub fn is_parts(first: &[u8], last: &[u8], at: usize, block: &[u8]) -> bool
     ensures { Decides (PartsIn first.now last.now at block.now) result }
 {
-    if block.len() != SIZE {
+    let Some(block) = block.as_array() else {
         return false;
-    }
+    };
     let Ok(parts) = Parts::new(first, last, at) else {
         return false;
     };

@@ -1,7 +1,7 @@
 // The check of a block, its last two bytes.
 ghost use Rattle.std.specs.Prelude.{◌≡◌, ◌+◌, ◌≤◌, length};
 ghost use Rattle.refusal.specs.Said.{Finds};
-ghost use Rattle.seal.specs.Seal.{block_size, body_size, byte, plain_sum, weighed_sum, block_checks};
+ghost use Rattle.seal.specs.Seal.{body_size, byte, plain_sum, weighed_sum, block_checks};
 ghost use Rattle.seal.specs.Scan.{SumsAt};
 
 use crate::layout::{BODY, LAST, SIZE};
@@ -15,8 +15,7 @@ pub(crate) struct Sums {
 
 impl Sums {
     // The check that a block has.
-    pub(crate) fn told(block: &[u8]) -> Sums
-        requires { length block.now ≡ block_size }
+    pub(crate) fn told(block: &[u8; SIZE]) -> Sums
         ensures { (result.plain ≡ byte block.now body_size) × (result.weighed ≡ byte block.now (body_size + 1)) }
     {
         Sums {
@@ -27,8 +26,7 @@ impl Sums {
 
     // The check that is right: two sums, each with one remainder at its end. Byte 255 + i stands beside byte i, since modulo 255 both weigh 255 - i:
     // half as many turns, and the largest sums are 130,050 and 16,646,400.
-    fn of(block: &[u8]) -> Sums
-        requires { body_size ≤ length block.now }
+    fn of(block: &[u8; SIZE]) -> Sums
         ensures { (result.plain ≡ plain_sum block.now) × (result.weighed ≡ weighed_sum block.now) }
     {
         let mut plain: u32 = 0;
@@ -63,9 +61,9 @@ impl Sums {
 pub fn check_block(block: &[u8]) -> Result<(), Refusal>
     ensures { Finds (block_checks block.now) result }
 {
-    if block.len() != SIZE {
+    let Some(block) = block.as_array() else {
         return Err(Refusal::Length);
-    }
+    };
     if Sums::told(block) != Sums::of(block) {
         return Err(Refusal::Check);
     }

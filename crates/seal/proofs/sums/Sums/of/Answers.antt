@@ -1,5 +1,7 @@
 -- `seal::sums::Sums::of` meets its contract: both sums over the pairs of bytes passed are the block's. Assumes nothing.
-use Rattle.std.proofs.Common.{◌+◌, arith}
+use Rattle.std.proofs.Common.{rules, ◌+◌, arith}
+use mir.Syntax.{w8}
+use mir.Val.{Fits}
 use Rattle.seal.specs.Seal.{byte}
 use Rattle.seal.proofs.Bytes.{upto_none, upto_more, upto_all}
 use Rattle.seal.proofs.Pairs.{weight_most, ended}
@@ -10,7 +12,7 @@ loop-i-init c = (upto_none _ _ _, upto_none _ _ _)
 
 pub loop-i-preserved : goal.loop-i-preserved
 loop-i-preserved c =
-    let l = c.args.block.now in let v = c.loop-i in let a = c.type_inv.block v.i in let b = c.type_inv.block (255 + v.i) in
+    let l = c.args.block.now in let v = c.loop-i in let a : Fits w8 (byte l v.i) = search rules in let b : Fits w8 (byte l (255 + v.i)) = search rules in
     (upto_more _ _ _ _ _ (omega arith) (omega (arith, a, b)) v.invariant.0, upto_more _ _ _ _ _ (omega arith) (weight_most v.i (byte l v.i) (byte l (255 + v.i)) a b) v.invariant.1)
 
 pub returns : goal.returns
