@@ -1,16 +1,14 @@
 -- What the tests of one number say of its answer. Assumes nothing.
-use mathlib.Core.Path.{◌≡◌, refl, sym, subst, ◌∙◌}
+use mathlib.Core.Path.{◌≡◌, refl, sym}
 use mathlib.Core.Bool.{true, false, true≢false}
 use Prim.Native.Nat.{ℕ, ◌≤◌}
 use native.Mathlib.Omega.{arith}
 use lib.IntN.{ℤ, pos, negsuc, nat_abs, ◌+ℤ◌, ◌*ℤ◌}
 use lib.Signed.{◌≤ℤ◌, ◌<ℤ◌}
-use lib.Ieee.{Float, nan, inf, fin, binary32, lt, eq, ne, mul, of_int}
-use lib.Ieee.Compare.{differs_from_itself, nan_differs}
+use lib.Ieee.{Float, nan, inf, fin, binary32, lt, eq, is_nan, mul, of_int}
 use Rattle.whole.specs.Fraction.{Frac, ◌≈◌, whole}
 use Rattle.whole.proofs.Difference.{all, all2, all3, ring}
 use Rattle.whole.proofs.Order.{cancel, cancel_next}
-use Rattle.whole.proofs.Flag.{yes_of}
 use Rattle.whole.proofs.Range.{abs_by}
 use Rattle.whole.proofs.Fraction.{trans, less, apart, le_then_lt, lt_then_le}
 use Rattle.rules.specs.Reach.{Reach}
@@ -58,8 +56,11 @@ module _ (v : Frac) (t : Taken) where
   answer_worth (fin s m e) i h = worth_same (value s m e) v i t h
 
 -- ---- not a number, and out of reach
-pub not_number : (x : Float) → ne x x ≡ true → Answer x NotNumber
-not_number x e = subst (λ (y : Float). Answer y NotNumber) (sym (differs_from_itself x (yes_of (ne x x) e))) refl
+pub not_number : (x : Float) → is_nan x ≡ true → Answer x NotNumber
+unfolding is_nan
+not_number nan e = refl
+not_number (inf s) e = absurd (true≢false (sym e))
+not_number (fin s m e) h = absurd (true≢false (sym h))
 
 pub below_reach : (x : Float) → lt x lowest ≡ true → Answer x Beyond
 unfolding lt
@@ -81,9 +82,9 @@ pub record Inside (x : Float) : Type 0 where
   pub is : Is x worth
   pub within : Within worth
 
-pub inside : (x : Float) → ne x x ≡ false → lt x lowest ≡ false → lt highest x ≡ false → Inside x
-unfolding lt
-inside nan n l h = absurd (true≢false (sym nan_differs ∙ n))
+pub inside : (x : Float) → is_nan x ≡ false → lt x lowest ≡ false → lt highest x ≡ false → Inside x
+unfolding lt is_nan
+inside nan n l h = absurd (true≢false n)
 inside (inf true) n l h = absurd (true≢false l)
 inside (inf false) n l h = absurd (true≢false h)
 inside (fin s m e) n l h =

@@ -4,7 +4,7 @@
 ghost use Rattle.grid.specs.Number.{Scaled, Bounded, Floored, Answer};
 
 // The answer of one number, an enum of four cases as the specification asks: its grid number; the grid value at or below it; not a number; out of reach.
-#[derive(Clone, Copy)]
+#[derive(Clone, Copy, PartialEq)]
 pub enum Taken {
     Grid(i32),
     OffGrid(f32),
@@ -34,13 +34,10 @@ fn floor(scaled: f32) -> i32
 pub fn take(x: f32) -> Taken
     ensures { Answer x result }
 {
-    if x != x {
+    if x.is_nan() {
         return Taken::NotNumber;
     }
-    if x < -1024.0 {
-        return Taken::Beyond;
-    }
-    if x > 1024.0 {
+    if x < -1024.0 || x > 1024.0 {
         return Taken::Beyond;
     }
     let scaled = sixteenfold(x);

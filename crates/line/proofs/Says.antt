@@ -8,14 +8,15 @@ use native.Mathlib.Omega.{arith}
 use lib.Dec.{eqb, ltb}
 use lib.IntN.{ℤ}
 use lib.ListN.{length}
-use Rattle.std.proofs.Common.{Some, None}
+use Rattle.std.proofs.Common.{Option, Some, None}
+use Rattle.line.specs.declared.Said.{Said}
 use Rattle.line.specs.declared.Said.TheVariants as says
 use Rattle.line.specs.declared.Vertex.{Vertex}
 use Rattle.line.specs.Text.{words}
 use Rattle.line.specs.Number.{first, is_decimal, decimal, turned, is_corner, index}
 use Rattle.line.specs.Line.{Point, Line, passed, other, vertex, face, same, among, passed_words, vertex_line, all_corners, face_line, by_words, line_of, names, all_named}
 use Rattle.line.specs.Calls.{entry, said_of}
-use Rattle.line.specs.Steps.{vertex_or, vertex_says}
+use Rattle.line.specs.Steps.{vertex_in}
 use Rattle.line.proofs.Told.{no, there, otherwise}
 use Rattle.line.proofs.Words.{words_length, same_is}
 
@@ -57,16 +58,12 @@ vertex_line_lem (x ∷ (y ∷ (z ∷ []))) = by (is_decimal x && (is_decimal y &
 vertex_line_lem (x ∷ (y ∷ (z ∷ (w ∷ ws)))) = inl refl
 
 -- whatever stands above
-pub vertex_said : (k : ℕ) (ws : List (List ℕ)) → said_of k (vertex_line ws) ≡ vertex_says (vertex_or ws)
-vertex_said k [] = refl
-vertex_said k (x ∷ []) = refl
-vertex_said k (x ∷ (y ∷ [])) = refl
-vertex_said k (x ∷ (y ∷ (z ∷ []))) = by (is_decimal x && (is_decimal y && is_decimal z)) (record { x = decimal x; y = turned (decimal z) })
-  where
-    by : (t : Bool) (p : Point) → said_of k (cond t (vertex p) other) ≡ vertex_says (cond t (Some (record { x = entry p.x; y = entry p.y })) None)
-    by true p = refl
-    by false p = refl
-vertex_said k (x ∷ (y ∷ (z ∷ (w ∷ ws)))) = refl
+abbrev pub vertex_says : Option Vertex → Said
+vertex_says None = says.Other
+vertex_says (Some v) = says.Vertex v
+
+pub vertex_said : (k : ℕ) (ws : List (List ℕ)) → said_of k (vertex_line ws) ≡ vertex_says (vertex_in (vertex_line ws))
+vertex_said k ws = ⊎_elim (λ e. rw e) (λ v. rw v.2) (vertex_line_lem ws)
 
 -- ---- a line by its first word
 pub line_blank : (l : List ℕ) → words l ≡ [] → line_of l ≡ passed

@@ -7,9 +7,10 @@ use Rattle.line.specs.declared.Unnamed.TheVariants.{NoVertex, NoCorner}
 use Rattle.line.specs.declared.Said.{Said}
 use Rattle.line.specs.declared.Said.TheVariants as says
 use Rattle.line.specs.declared.Corner.{Corner}
+use Rattle.line.specs.declared.Vertex.{Vertex}
 use Rattle.line.specs.Text.{blank, words}
 use Rattle.line.specs.Number.{Decimal, gridded, is_corner, index}
-use Rattle.line.specs.Line.{Line, passed, other, vertex, face, names, all_named}
+use Rattle.line.specs.Line.{Point, Line, passed, other, vertex, face, names, all_named}
 
 -- ---- a line
 -- a decimal's grid number, or what keeps it from the grid: one whose size is more than 1,024 is out of reach; one is on the grid where sixteen times it is whole.
@@ -17,11 +18,15 @@ use Rattle.line.specs.Line.{Line, passed, other, vertex, face, names, all_named}
 unfoldable pub entry : Decimal → Result ℤ Missed
 entry d = cond (ltb (1024 * 10 ^ d.places) d.whole) (Err Beyond) (cond (eqb (16 * d.whole % 10 ^ d.places) 0) (Ok (gridded d)) (Err OffGrid))
 
+-- a point as a vertex
+abbrev pub vertex_of : Point → Vertex
+vertex_of p = record { x = entry p.x; y = entry p.y }
+
 -- what a line says, with k vertices above it
 abbrev pub said_of : ℕ → Line → Said
 said_of k passed = says.Passed
 said_of k other = says.Other
-said_of k (vertex p) = says.Vertex (record { x = entry p.x; y = entry p.y })
+said_of k (vertex p) = says.Vertex (vertex_of p)
 said_of k (face ns) = says.Face (all_named k ns)
 
 -- ---- the next word of a line, and the vertex that it names as a corner

@@ -1,15 +1,14 @@
 -- What the single steps of reading a line compute. Assumes nothing.
-use Rattle.std.specs.Prelude.{◌≡◌, Bool, true, false, cond, ◌&&◌, List, [], ◌∷◌, ℕ, ◌+◌, ◌-◌, ◌^◌, ◌<◌, min, ℤ, length, drop, Option, None, Some, Result}
+use Rattle.std.specs.Prelude.{◌≡◌, Bool, true, false, cond, List, [], ℕ, ◌+◌, ◌-◌, ◌^◌, ◌<◌, min, ℤ, length, drop, Option, None, Some, Result}
 use Rattle.std.specs.Borrow.{Bor}
 use Rattle.grid.specs.Number.{signed}
 use Rattle.line.specs.declared.Missed.{Missed}
 use Rattle.line.specs.declared.Unnamed.{Unnamed}
 use Rattle.line.specs.declared.Vertex.{Vertex}
-use Rattle.line.specs.declared.Said.{Said}
-use Rattle.line.specs.declared.Said.TheVariants as says
 use Rattle.line.specs.Text.{point, parts}
 use Rattle.line.specs.Number.{Decimal, is_pointed, pointed, turned, number, digit, few, digits, minus, past, is_decimal, decimal, is_whole}
-use Rattle.line.specs.Calls.{part, Word, named, entry}
+use Rattle.line.specs.Line.{Line, passed, other, vertex, face}
+use Rattle.line.specs.Calls.{vertex_of, part, Word, named, entry}
 
 -- ---- words and parts
 -- a word of a line, and what stands after it
@@ -66,14 +65,9 @@ turned_if false d = d
 abbrev pub decimal_or : Bool → List ℕ → Option (Result ℤ Missed)
 decimal_or t w = cond (is_decimal w) (Some (entry (turned_if t (decimal w)))) None
 
--- the vertex that three decimals say
-abbrev pub vertex_or : List (List ℕ) → Option Vertex
-vertex_or [] = None
-vertex_or (x ∷ []) = None
-vertex_or (x ∷ (y ∷ [])) = None
-vertex_or (x ∷ (y ∷ (z ∷ []))) = cond (is_decimal x && (is_decimal y && is_decimal z)) (Some (record { x = entry (decimal x); y = entry (turned (decimal z)) })) None
-vertex_or (x ∷ (y ∷ (z ∷ (w ∷ ws)))) = None
-
-abbrev pub vertex_says : Option Vertex → Said
-vertex_says None = says.Other
-vertex_says (Some v) = says.Vertex v
+-- the vertex that a line says
+abbrev pub vertex_in : Line → Option Vertex
+vertex_in passed = None
+vertex_in other = None
+vertex_in (vertex p) = Some (vertex_of p)
+vertex_in (face ns) = None

@@ -4,9 +4,9 @@
 
 ghost use Rattle.std.specs.Prelude.{◌≡◌};
 ghost use Rattle.line.specs.Text.{words};
-ghost use Rattle.line.specs.Line.{among, passed_words, face_line, line_of};
+ghost use Rattle.line.specs.Line.{among, passed_words, vertex_line, face_line, line_of};
 ghost use Rattle.line.specs.Calls.{said_of, Next};
-ghost use Rattle.line.specs.Steps.{vertex_or};
+ghost use Rattle.line.specs.Steps.{vertex_in};
 
 use crate::decimal::decimal;
 use crate::index::corner;
@@ -68,7 +68,7 @@ pub fn next_corner(line: &[u8], at: usize, above: u16) -> Option<Corner>
 
 // Three decimals and nothing else.
 fn read_vertex(line: &[u8]) -> Option<Vertex>
-    ensures { result ≡ vertex_or (words line.now) }
+    ensures { result ≡ vertex_in (vertex_line (words line.now)) }
 {
     let (x, rest) = word(line)?;
     let (height, rest) = word(rest)?;

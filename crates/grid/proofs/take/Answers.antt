@@ -12,26 +12,26 @@ use Rattle.grid.specs.Number.{Answer}
 use Rattle.grid.proofs.Whole.{in_float_lem}
 use Rattle.grid.proofs.Number.{Inside, inside, not_number, below_reach, above_reach, bounded, sixteenth, floor_small, on_grid, off_grid}
 use Rattle.grid.proofs.take.Goals as goal
-use Rattle.grid.proofs.take.Goals.{Else-x-3, After-floor-k}
+use Rattle.grid.proofs.take.Goals.{Else-x-2, After-floor-k, then-x-via-then-x, then-x-via-else-x+then-x-2}
+
+pub returns-then-is_nan : goal.returns-then-is_nan
+returns-then-is_nan c = not_number c.args.x (sym c.if-is_nan.ensures.value)
 
 pub returns-then-x : goal.returns-then-x
-returns-then-x c = not_number c.args.x c.if-x.true
-
-pub returns-then-x-2 : goal.returns-then-x-2
 unfolding of_bits neg
-returns-then-x-2 c = below_reach c.args.x c.if-x-2.true
-
-pub returns-then-x-3 : goal.returns-then-x-3
-unfolding of_bits
-returns-then-x-3 c = above_reach c.args.x c.if-x-3.true
+returns-then-x c =
+    elim c.then-x.branch [
+      | then-x-via-then-x w ↦ below_reach c.args.x w.if-x.true
+      | then-x-via-else-x+then-x-2 w ↦ above_reach c.args.x w.if-x-2.true
+    ]
 
 -- past the tests: within reach
-reached : (c : Else-x-3) → Inside c.args.x
+reached : (c : Else-x-2) → Inside c.args.x
 unfolding of_bits neg
-reached c = inside c.args.x c.if-x.false c.if-x-2.false c.if-x-3.false
+reached c = inside c.args.x (sym c.if-is_nan.ensures.value) c.if-x.false c.if-x-2.false
 
 pub floor-k-requires : goal.floor-k-requires
-floor-k-requires c = bounded c.args.x c.sixteenfold-scaled.result (reached (goal.at.floor-k-requires c).Else-x-3) c.sixteenfold-scaled.ensures
+floor-k-requires c = bounded c.args.x c.sixteenfold-scaled.result (reached (goal.at.floor-k-requires c).Else-x-2) c.sixteenfold-scaled.ensures
 
 -- what is known when the floor is taken
 module _ (s : After-floor-k) where
@@ -47,7 +47,7 @@ module _ (s : After-floor-k) where
   -- past the tests: within reach
   in_reach : Inside x
   unfolding of_bits neg
-  in_reach = inside s.args.x s.if-x.false s.if-x-2.false s.if-x-3.false
+  in_reach = inside s.args.x (sym s.if-is_nan.ensures.value) s.if-x.false s.if-x-2.false
 
   small : nat_abs k ≤ 16384
   small = floor_small x g k in_reach s.sixteenfold-scaled.ensures s.floor-k.ensures

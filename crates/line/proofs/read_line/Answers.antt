@@ -10,9 +10,9 @@ use Rattle.std.proofs.Common.{rules}
 use Rattle.line.specs.Text.{words}
 use Rattle.line.specs.Line.{passed, other, same, among, passed_words, vertex_line, face_line, line_of}
 use Rattle.line.specs.Calls.{said_of}
-use Rattle.line.specs.Steps.{Taken, vertex_says}
+use Rattle.line.specs.Steps.{Taken}
 use Rattle.line.proofs.Words.{taken_words, words_none, one_byte, other_byte}
-use Rattle.line.proofs.Says.{vertex_said, line_blank, line_noted, line_words, by_v, by_f, by_other}
+use Rattle.line.proofs.Says.{vertex_says, vertex_said, line_blank, line_noted, line_words, by_v, by_f, by_other}
 use Rattle.line.proofs.read_line.Goals as goal
 use Rattle.line.proofs.read_line.Goals.{After-is_passed, in_default-first-via-then-first-lt1}
 use Rattle.line.proofs.read_line.Goals.{in_default-first-via-else-first-lt1+then-first-lt2+in_default-1, in_default-first-via-else-first-lt1+else-first-lt2}
