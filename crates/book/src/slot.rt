@@ -41,10 +41,8 @@ pub(crate) fn recall(slot: &[u8], first: &[u8], run: Run) -> Option<u32>
     ensures { Recalls slot.now (filled code_at first.now) (run_of run) result }
 {
     let code = code_in(slot);
-    if code != NONE {
-        if 256 * run.ticks < code {
-            return None;
-        }
+    if code != NONE && 256 * run.ticks < code {
+        return None;
     }
     if is_entry(slot, first, code) {
         Some(code)
