@@ -1,7 +1,5 @@
 // A run block.
-ghost use Rattle.std.specs.Prelude.{◌≡◌, length};
 ghost use Rattle.good.specs.Numbers.{run_of};
-ghost use Rattle.seal.specs.Seal.{block_size};
 ghost use Rattle.block.specs.Reading.{RunSays, WriteRunBodySays, WriteRunSays};
 ghost use Rattle.block.specs.Scan.{RunAt};
 

@@ -1,10 +1,8 @@
 // A piece block.
-ghost use Rattle.std.specs.Prelude.{◌≡◌, [], ◌++◌, ◌+◌, ◌*◌, ◌≤◌, length, take};
-ghost use Rattle.rules.specs.Refusal.{Passes, Sought};
+ghost use Rattle.std.specs.Prelude.{◌≡◌, [], ◌+◌, ◌*◌, ◌≤◌, length, take};
+ghost use Rattle.rules.specs.Refusal.{Sought};
 ghost use Rattle.good.specs.Numbers.{piece_of};
 ghost use Rattle.piece_block.specs.Layout.{piece_body_size, piece_numbers, piece_front};
-ghost use Rattle.seal.specs.Seal.{block_checks};
-ghost use Rattle.block.specs.Reading.{piece_bytes};
 ghost use Rattle.piece_block.specs.Reading.{PieceSays, Held, WritePieceBodySays, WritePieceSays};
 ghost use Rattle.pair.specs.Pair.{Wide};
 

@@ -1,9 +1,5 @@
 // The verdict of a run on the piece in a block. Both are checked once, and a block that is refused before its numbers are read waits for the run.
-ghost use Rattle.std.specs.Prelude.{◌++◌};
-ghost use Rattle.rules.specs.Refusal.{Passes};
 ghost use Rattle.good.specs.Numbers.{run_of};
-ghost use Rattle.seal.specs.Seal.{block_checks};
-ghost use Rattle.block.specs.Reading.{piece_bytes};
 ghost use Rattle.piece_block.specs.Verdicts.{VerdictInSays};
 
 use crate::scan::piece_at;
