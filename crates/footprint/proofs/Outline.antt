@@ -1,8 +1,8 @@
 -- One pass over the corners: what was found of those passed, their reach, twice the area. Assumes nothing.
-use Rattle.std.specs.Prelude.{Option, None}
+use Rattle.std.specs.Prelude.{Option}
 use Rattle.std.specs.Bool.{then_some}
 use Rattle.std.specs.Option.{option_or}
-use mathlib.Core.Path.{◌≡◌, refl, sym, ap, subst, ◌∙◌}
+use mathlib.Core.Path.{◌≡◌, sym, ap, subst, ◌∙◌}
 use mathlib.Core.Bool.{Bool, true, false}
 use mathlib.Core.Logic.{⊎_elim}
 use mathlib.Core.List.{List, [], ◌∷◌}
@@ -22,7 +22,7 @@ use Rattle.rules.specs.Reach.{Reach}
 use Rattle.rules.specs.Ring.{Pt, Ring, ring, next, from, to}
 use Rattle.rules.specs.Refusal.{Sought}
 use Rattle.rules.specs.Good.{Same, area}
-use Rattle.rules.proofs.Checks.{sought_none, sought_more, sought_map}
+use Rattle.rules.proofs.Checks.{sought_more, sought_map}
 use Rattle.rules.proofs.Reach.{between_stable}
 use Rattle.rules.proofs.Ring.{next_ways, next_inner}
 use Rattle.footprint.specs.Point.{pt}
@@ -66,12 +66,6 @@ reached_more l n i h b r c j a k =
 pub reached_next : (l : List ℤ) (n i : ℕ) → i < n → Reached l (2 * i + 2) → Reached l (2 * next n i)
 reached_next l n i b r j a = r j (⊎_elim (λ w. omega arith) (λ w. omega arith) (next_ways n i b))
 
-pub reached_two : (l : List ℤ) (n : ℕ) → HoldsRing l n → Corner l 0 → Reached l 2
-reached_two l n h c j a b = ⊎_elim (λ (m : 1 ≤ j). let e : 1 ≡ j = omega arith in rw e at c.y) (λ (m : j < 1). let e : 0 ≡ j = omega arith in subst at e c.x) (ℕ_or 1 j)
-  where
-    at : ℕ → Type 0
-    at j = Reach (get_or l j (pos 0))
-
 -- ---- twice the area
 wedge_small : (x y u v : ℤ) → nat_abs x ≤ 16384 → nat_abs y ≤ 16384 → nat_abs u ≤ 16384 → nat_abs v ≤ 16384 → nat_abs (x *ℤ v -ℤ y *ℤ u) ≤ 536870912
 wedge_small = vars4 _ λ ρ h i j k. simp poly (at_most ρ (16384 ∷ 16384 ∷ 16384 ∷ 16384 ∷ []) _ (h, (i, (j, (k, tt)))) 536870912 tt)
@@ -94,9 +88,6 @@ pub record Passed (l : List ℤ) (n i : ℕ) (e f : Option ℕ) (twice : ℤ) : 
   pub fold : Sought (Later (ring l)) i f
   pub area : twice ≡ area (ring l) i
   pub small : nat_abs twice ≤ 536870912 * i
-
-pub passed_none : (l : List ℤ) (n : ℕ) → Reached l 2 → Passed l n 0 None None (pos 0)
-passed_none l n r = record { upto = omega arith; reach = r; same = sought_none _; fold = sought_none _; area = refl; small = omega arith }
 
 -- the flag of a bend at a corner after the first
 later_by : (r : Ring) (i : ℕ) (t : Bool) → i < r.size → Decides ((0 < i) × (bends (r.at (i - 1)) (r.at i) (to r i) ≡ true)) t → Decides (Later r i) t
@@ -143,9 +134,6 @@ module _ (l : List ℤ) (n i : ℕ) (e f : Option ℕ) (twice : ℤ) (h : HoldsR
 
 -- ---- all edges done, and corner 0 looked at
 module _ (l : List ℤ) (n : ℕ) (e f : Option ℕ) (twice : ℤ) (h : HoldsRing l n) (p : Passed l n n e f twice) where
-  pub corner_all : (j : ℕ) → j < n → Corner l j
-  corner_all j b = corner_at l n (2 * n + 2) j h p.reach (omega arith) b
-
   first_bend : Decides (Bend (ring l) 0) (bends ((ring l).at (n - 1)) ((ring l).at 0) ((ring l).at 1))
   first_bend =
       let m = h.corners.least in

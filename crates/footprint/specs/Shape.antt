@@ -99,7 +99,6 @@ Ends n i e = ((i ≡ 0) × (e + 1 ≡ n)) ⊎ ((0 < i) × (e ≡ n))
 
 -- n corners within reach, and a table of their edges' boxes
 pub record Tabled (l : List ℤ) (t : List Extent) (n : ℕ) : Type 0 where
-  pub held : HoldsRing l n
   pub corners : (j : ℕ) → j < n → Corner l j
   pub boxed : AllBoxed (ring l) t n
 

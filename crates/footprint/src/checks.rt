@@ -5,13 +5,13 @@ ghost use Rattle.rules.specs.Good.{Sized, corners_check, shape_checks, footprint
 ghost use Rattle.refusal.specs.Said.{Finds, Told};
 ghost use Rattle.whole.specs.Decide.{Decides};
 ghost use Rattle.footprint.specs.Point.{pt};
-ghost use Rattle.footprint.specs.Shape.{HoldsRing, Corner, NumberSays, CornerSays, Draws, FirstPair, bends};
+ghost use Rattle.footprint.specs.Shape.{Corner, Draws, FirstPair, bends};
 
+use crate::corners::Corners;
 use crate::edges::Edges;
 use crate::extent::{Extent, Interval, fill};
-use crate::number::{reaches, wide};
 use crate::point::Point;
-use crate::ring::{around, bends, corner, wedge};
+use crate::ring::{bends, wedge};
 use refusal::Refusal;
 
 // What one pass over corners within reach finds: the first corner that equals the next, the first with a fold, and twice the area.
@@ -36,79 +36,52 @@ pub fn sized(l: &[i32]) -> bool
     len <= 128
 }
 
-// Number j of the list, looked at before it is computed with.
-fn number(l: &[i32], j: usize) -> Result<i64, Refusal>
-    requires { j < length l.now }
-    ensures { NumberSays l.now j result }
-{
-    if reaches(l[j]) {
-        Ok(wide(l[j]))
-    } else {
-        Err(Refusal::Reach(12 + 2 * j))
-    }
-}
-
-// Corner k, if both its numbers are within reach.
-fn reached(l: &[i32], k: usize) -> Result<Point, Refusal>
-    requires { k < (ring l.now).size }
-    ensures { CornerSays l.now k result }
-{
-    let x = number(l, 2 * k)?;
-    let y = number(l, 2 * k + 1)?;
-    Ok(Point { x, y })
-}
-
 // Whether the edges at corner i bend back, but for corner 0, whose edge before is not looked at yet.
-fn bends_after(l: &[i32], i: usize, here: Point, next: Point) -> bool
-    requires { Corner l.now (i - 1) }
-    ensures { Decides ((0 < i) × (bends ((ring l.now).at (i - 1)) (pt here) (pt next) ≡ true)) result }
+fn bends_after(corners: Corners, i: usize, here: Point, next: Point) -> bool
+    requires { Corner corners.list.now (i - 1) }
+    ensures { Decides ((0 < i) × (bends ((ring corners.entry.list.now).at (i - 1)) (pt here) (pt next) ≡ true)) result }
 {
-    0 < i && bends(corner(l, i - 1), here, next)
+    0 < i && bends(corners.at(i - 1), here, next)
 }
 
 // One pass: a number's reach is looked at before it is computed with.
-fn draw(l: &[i32], n: usize) -> Result<Drawing, Refusal>
-    requires { HoldsRing l.now n }
-    ensures { Told (corners_check l.now ∷ []) (Draws l.now) result }
+fn draw(corners: Corners) -> Result<Drawing, Refusal>
+    ensures { Told (corners_check corners.entry.list.now ∷ []) (Draws corners.entry.list.now) result }
 {
-    let first = reached(l, 0)?;
+    let first = corners.reached(0)?;
     let mut same = None;
     let mut fold = None;
     let mut area = 0;
-    for i in 0..n {
-        let next = reached(l, around(n, i + 1))?;
-        let here = corner(l, i);
+    for i in 0..corners.count {
+        let next = corners.reached(corners.after(i))?;
+        let here = corners.at(i);
         same = same.or((here == next).then_some(i));
-        fold = fold.or(bends_after(l, i, here, next).then_some(i));
+        fold = fold.or(bends_after(corners, i, here, next).then_some(i));
         area += wedge(here, next);
     }
-    let closing = bends(corner(l, n - 1), first, corner(l, 1)).then_some(0);
-    Ok(Drawing {
-        same,
-        fold: closing.or(fold),
-        area,
-    })
+    let closing = bends(corners.at(corners.count - 1), first, corners.at(1)).then_some(0);
+    let fold = closing.or(fold);
+    Ok(Drawing { same, fold, area })
 }
 
-fn first_meet(l: &[i32], n: usize) -> Option<(usize, usize)>
-    requires { HoldsRing l.now n × ((j : ℕ) → j < n → Corner l.now j) }
-    ensures { FirstPair (ring l.now) result }
+fn first_meet(corners: Corners) -> Option<(usize, usize)>
+    requires { (j : ℕ) → j < corners.count → Corner corners.list.now j }
+    ensures { FirstPair (ring corners.entry.list.now) result }
 {
     let none = Interval { low: 0, high: 0 };
     let mut t = [Extent { x: none, y: none }; 64];
-    fill(l, n, &mut t);
+    fill(corners, &mut t);
     let edges = Edges {
-        corners: l,
+        corners,
         extents: &t,
-        count: n,
     };
     edges.first_pair()
 }
 
 // What a drawing says, and the edges' meetings.
-fn settle(l: &[i32], n: usize, drawing: Drawing) -> Result<(), Refusal>
-    requires { HoldsRing l.now n × Told (corners_check l.now ∷ []) (Draws l.now) (Ok drawing) }
-    ensures { Finds (shape_checks l.now) result }
+fn settle(corners: Corners, drawing: Drawing) -> Result<(), Refusal>
+    requires { Told (corners_check corners.list.now ∷ []) (Draws corners.list.now) (Ok drawing) }
+    ensures { Finds (shape_checks corners.entry.list.now) result }
 {
     if let Some(i) = drawing.same {
         return Err(Refusal::Same(i));
@@ -116,7 +89,7 @@ fn settle(l: &[i32], n: usize, drawing: Drawing) -> Result<(), Refusal>
     if let Some(i) = drawing.fold {
         return Err(Refusal::Fold(i));
     }
-    if let Some((i, j)) = first_meet(l, n) {
+    if let Some((i, j)) = first_meet(corners) {
         return Err(Refusal::Meet(i, j));
     }
     if drawing.area <= 0 {
@@ -130,9 +103,12 @@ fn check_shape(l: &[i32]) -> Result<(), Refusal>
     requires { Sized l.now }
     ensures { Finds (shape_checks l.now) result }
 {
-    let n = l.len() / 2;
-    let drawing = draw(l, n)?;
-    settle(l, n, drawing)
+    let corners = Corners {
+        list: l,
+        count: l.len() / 2,
+    };
+    let drawing = draw(corners)?;
+    settle(corners, drawing)
 }
 
 // Whether a footprint is good: the corners' count, their reach, and their shape.

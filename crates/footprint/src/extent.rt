@@ -4,12 +4,12 @@ ghost use Rattle.std.specs.Int.{w16};
 ghost use Rattle.std.proofs.Common.{SFits};
 ghost use Rattle.rules.specs.Ring.{ring};
 ghost use Rattle.footprint.specs.Point.{pt};
-ghost use Rattle.footprint.specs.Shape.{HoldsRing, Corner};
+ghost use Rattle.footprint.specs.Shape.{Corner};
 ghost use Rattle.footprint.specs.Table.{interval_of, extent_of, split, extents_apart, AllBoxed};
 
+use crate::corners::Corners;
 use crate::number::{least, most, narrow};
 use crate::point::Point;
-use crate::ring::{around, corner};
 
 // From the lower of two numbers to the higher: 16 bits hold every number within reach.
 #[derive(Clone, Copy)]
@@ -44,12 +44,12 @@ fn extent_of(a: Point, b: Point) -> Extent
 }
 
 // The boxes of all edges.
-pub(crate) fn fill(l: &[i32], n: usize, t: &mut [Extent; 64])
-    requires { HoldsRing l.now n × ((j : ℕ) → j < n → Corner l.now j) }
-    ensures { AllBoxed (ring l.now) t.new n }
+pub(crate) fn fill(corners: Corners, t: &mut [Extent; 64])
+    requires { (j : ℕ) → j < corners.count → Corner corners.list.now j }
+    ensures { AllBoxed (ring corners.entry.list.now) t.new corners.entry.count }
 {
-    for i in 0..n {
-        t[i] = extent_of(corner(l, i), corner(l, around(n, i + 1)));
+    for i in 0..corners.count {
+        t[i] = extent_of(corners.at(i), corners.at(corners.after(i)));
     }
 }
 

@@ -3,6 +3,7 @@
 #![tactic(auto)]
 
 mod checks;
+mod corners;
 mod edges;
 mod extent;
 mod number;

@@ -1,11 +1,10 @@
-// Corners of a list and edges between them.
-ghost use Rattle.std.specs.Prelude.{◌≡◌, ◌*◌, ◌+◌, ◌<◌};
-ghost use Rattle.rules.specs.Ring.{ring};
+// The way round a ring, and what is computed of corners within reach.
+ghost use Rattle.std.specs.Prelude.{◌≡◌};
 ghost use Rattle.decide.specs.Side.{side_of};
 ghost use Rattle.footprint.specs.Point.{pt};
-ghost use Rattle.footprint.specs.Shape.{Corner, around, parted, boxes_apart, aside, bends, wedge};
+ghost use Rattle.footprint.specs.Shape.{around, parted, boxes_apart, aside, bends, wedge};
 
-use crate::number::{least, most, same_side, wide};
+use crate::number::{least, most, same_side};
 use crate::point::Point;
 
 // Number k on the way round a ring of n: after the last comes 0 again.
@@ -13,16 +12,6 @@ pub fn around(n: usize, k: usize) -> usize
     ensures { result ≡ around n k }
 {
     if k == n { 0 } else { k }
-}
-
-// Corner i, known to be within reach.
-pub(crate) fn corner(l: &[i32], i: usize) -> Point
-    requires { Corner l.now i }
-    ensures { pt result ≡ (ring l.now).at i }
-{
-    let x = wide(l[2 * i]);
-    let y = wide(l[2 * i + 1]);
-    Point { x, y }
 }
 
 // Twice the area of three corners.

@@ -3,4 +3,4 @@ use Rattle.footprint.proofs.Outline.{Passed}
 use Rattle.footprint.proofs.checks.draw.Given as goal
 
 abbrev pub invariant-loop-i : goal.invariant-loop-i
-invariant-loop-i l = Passed l.l l.n l.i l.same l.fold l.area
+invariant-loop-i l = Passed l.corners.list.now l.corners.count l.i l.same l.fold l.area

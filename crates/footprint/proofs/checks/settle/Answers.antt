@@ -21,32 +21,32 @@ module _ (l : List ℤ) (d : Drawing) (p : Draws l d) (o : Option ℕ) where
   fold e = subst (Sought (Bend (ring l)) (ring l).size) e p.fold
 
 pub returns-in-Some : goal.returns-in-Some
-returns-in-Some c = let p = c.requires.1 in found_same _ p.0.0 c.in-Some.i (same _ _ p.1 (Some c.in-Some.i) c.in-Some.is)
+returns-in-Some c = let p = c.requires in found_same _ p.0.0 c.in-Some.i (same _ _ p.1 (Some c.in-Some.i) c.in-Some.is)
 
 pub returns-in-Some-fold : goal.returns-in-Some-fold
 returns-in-Some-fold c =
-    let p = c.requires.1 in
+    let p = c.requires in
     found_fold _ p.0.0 (same _ _ p.1 None c.in_default.is) c.in-Some-fold.i (fold _ _ p.1 (Some c.in-Some-fold.i) c.in-Some-fold.is)
 
 pub first_meet-requires : goal.first_meet-requires
-first_meet-requires c = (c.requires.0, corners_within c.requires.0 c.requires.1.0.0)
+first_meet-requires c = corners_within c.args.corners.holds c.requires.0.0
 
 pub returns-in-Some-first_meet : goal.returns-in-Some-first_meet
 returns-in-Some-first_meet c =
-    let p = c.requires.1 in
+    let p = c.requires in
     let m = c.in-Some-first_meet in
     found_meet _ p.0.0 (same _ _ p.1 None c.in_default.is) (fold _ _ p.1 None c.in_default-fold.is) m.i m.j m.ensures
 
 pub returns-then-drawing-le0 : goal.returns-then-drawing-le0
 returns-then-drawing-le0 c =
-    let p = c.requires.1 in
+    let p = c.requires in
     let a = c.args.drawing.area in
     let less = le_true a (pos 0) (rw (field w64 a (omega arith)) at c.if-drawing-le0.true) in
     found_clockwise _ p.0.0 (same _ _ p.1 None c.in_default.is) (fold _ _ p.1 None c.in_default-fold.is) c.in_default-first_meet.ensures (rw p.1.area at less)
 
 pub returns : goal.returns
 returns c =
-    let p = c.requires.1 in
+    let p = c.requires in
     let a = c.args.drawing.area in
     let more = le_false a (pos 0) (rw (field w64 a (omega arith)) at c.if-drawing-le0.false) in
     found_good _ p.0.0 (same _ _ p.1 None c.in_default.is) (fold _ _ p.1 None c.in_default-fold.is) c.in_default-first_meet.ensures (rw p.1.area at more)

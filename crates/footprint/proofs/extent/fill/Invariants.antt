@@ -5,4 +5,4 @@ use Rattle.footprint.specs.Table.{AllBoxed}
 use Rattle.footprint.proofs.extent.fill.Given as goal
 
 abbrev pub invariant-loop-i : goal.invariant-loop-i
-invariant-loop-i l = record { boxed : AllBoxed (ring l.l) l.t l.i; size : length l.t ≡ 64 }
+invariant-loop-i l = record { boxed : AllBoxed (ring l.corners.list.now) l.t l.i; size : length l.t ≡ 64 }

@@ -13,13 +13,10 @@ inside l n h k p m = let b = m.below in let e = size_of p in omega arith
 
 pub loop-i-preserved : goal.loop-i-preserved
 loop-i-preserved c h k a m =
-    let l = c.args.self.corners.now in
+    let l = c.args.self.corners.list.now in
     let i = c.loop-i.i in
-    let b = inside _ _ _ _ c.args.self.tabled.held m in
+    let b = inside _ _ _ _ c.args.self.corners.holds m in
     ⊎_elim (λ (q : i ≤ h). let e : h ≡ i = omega arith in c.in_default.ensures k b (subst (λ (h : ℕ). Meet (ring l) h k) e m)) (λ (q : h < i). c.loop-i.invariant h k q m) (ℕ_or i h)
 
-pub returns-in-Some : goal.returns-in-Some
-returns-in-Some c = record { meet = c.in-Some.ensures.bad; before = c.loop-i.invariant; then = λ k a m. c.in-Some.ensures.before k a m }
-
 pub returns : goal.returns
-returns c i j m = c.loop-i.invariant i j (let a = m.order in let b = inside _ _ _ _ c.args.self.tabled.held m in omega arith) m
+returns c i j m = c.loop-i.invariant i j (let a = m.order in let b = inside _ _ _ _ c.args.self.corners.holds m in omega arith) m

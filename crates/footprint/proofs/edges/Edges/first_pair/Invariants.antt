@@ -5,4 +5,4 @@ use Rattle.rules.specs.Good.{Meet}
 use Rattle.footprint.proofs.edges.Edges.first_pair.Given as goal
 
 abbrev pub invariant-loop-i : goal.invariant-loop-i
-invariant-loop-i l = (h k : ℕ) → h < l.i → Meet (ring l.self.corners.now) h k → ⊥
+invariant-loop-i l = (h k : ℕ) → h < l.i → Meet (ring l.self.corners.list.now) h k → ⊥

@@ -5,7 +5,6 @@ use Rattle.footprint.specs.Point.{pt}
 use Rattle.footprint.specs.Shape.{boxes_apart, aside, edges_share}
 use Rattle.footprint.specs.Table.{extent_of, extents_apart}
 use Rattle.footprint.specs.declared.extent.Extent.{Extent}
-use Rattle.footprint.proofs.Outline.{to_next}
 use Rattle.footprint.proofs.edges.Edges.shares.Goals as goal
 use Rattle.footprint.proofs.edges.Edges.shares.Goals.{After-apart}
 
@@ -26,32 +25,30 @@ told r i j d e f = rw (d, e, f)
 box : (r : Ring) (i j : ℕ) (d e : Extent) {a : Bool} → a ≡ extents_apart d e → d ≡ extent_of (from r i) (to r i) → e ≡ extent_of (from r j) (to r j) → a ≡ apart_edges r i j
 box r i j d e q u v = rw (u, v) at q
 
-boxes : (c : After-apart) → c.apart.result ≡ apart_edges (ring c.args.self.corners.now) c.args.i c.args.j
+boxes : (c : After-apart) → c.apart.result ≡ apart_edges (ring c.args.self.corners.list.now) c.args.i c.args.j
 boxes c =
     let p = c.args.self.tabled in
-    box (ring c.args.self.corners.now) c.args.i c.args.j _ _ c.apart.ensures (p.boxed c.args.i _ c.requires.0) (p.boxed c.args.j _ c.requires.1)
+    box (ring c.args.self.corners.list.now) c.args.i c.args.j _ _ c.apart.ensures (p.boxed c.args.i _ c.requires.0) (p.boxed c.args.j _ c.requires.1)
 
 pub returns-then-not-aside : goal.returns-then-not-aside
 returns-then-not-aside c =
-    let r = ring c.args.self.corners.now in
+    let r = ring c.args.self.corners.list.now in
     let i = c.args.i in
     let j = c.args.j in
-    let h = c.args.self.tabled.held in
-    let b = c.corner-b.ensures ∙ ap r.at (to_next h i c.around.result c.around.ensures) in
-    let d = c.corner-d.ensures ∙ ap r.at (to_next h j c.around-2.result c.around-2.ensures) in
+    let b = c.at-b.ensures ∙ ap r.at c.after.ensures.next in
+    let d = c.at-d.ensures ∙ ap r.at c.after-2.ensures.next in
     let apart = sym c.if-apart.false ∙ boxes (goal.at.returns-then-not-aside c).After-apart in
-    let first = sym c.if-not-aside.true ∙ side r i j (pt c.corner-a.result) (pt c.corner-b.result) (pt c.corner-c.result) (pt c.corner-d.result) c.aside.ensures c.corner-a.ensures b c.corner-c.ensures d in
-    let second = side r j i (pt c.corner-c.result) (pt c.corner-d.result) (pt c.corner-a.result) (pt c.corner-b.result) c.aside-then-not-aside.ensures c.corner-c.ensures d c.corner-a.ensures b in
+    let first = sym c.if-not-aside.true ∙ side r i j (pt c.at-a.result) (pt c.at-b.result) (pt c.at-c.result) (pt c.at-d.result) c.aside.ensures c.at-a.ensures b c.at-c.ensures d in
+    let second = side r j i (pt c.at-c.result) (pt c.at-d.result) (pt c.at-a.result) (pt c.at-b.result) c.aside-then-not-aside.ensures c.at-c.ensures d c.at-a.ensures b in
     told r i j apart first second
 
 pub returns-else-not-aside : goal.returns-else-not-aside
 returns-else-not-aside c =
-    let r = ring c.args.self.corners.now in
+    let r = ring c.args.self.corners.list.now in
     let i = c.args.i in
     let j = c.args.j in
-    let h = c.args.self.tabled.held in
-    let b = c.corner-b.ensures ∙ ap r.at (to_next h i c.around.result c.around.ensures) in
-    let d = c.corner-d.ensures ∙ ap r.at (to_next h j c.around-2.result c.around-2.ensures) in
+    let b = c.at-b.ensures ∙ ap r.at c.after.ensures.next in
+    let d = c.at-d.ensures ∙ ap r.at c.after-2.ensures.next in
     let apart = sym c.if-apart.false ∙ boxes (goal.at.returns-else-not-aside c).After-apart in
-    let first = sym c.if-not-aside.false ∙ side r i j (pt c.corner-a.result) (pt c.corner-b.result) (pt c.corner-c.result) (pt c.corner-d.result) c.aside.ensures c.corner-a.ensures b c.corner-c.ensures d in
+    let first = sym c.if-not-aside.false ∙ side r i j (pt c.at-a.result) (pt c.at-b.result) (pt c.at-c.result) (pt c.at-d.result) c.aside.ensures c.at-a.ensures b c.at-c.ensures d in
     ap not c.if-not-aside.false ∙ told r i j apart first refl
