@@ -44,6 +44,9 @@ module _ (d : ℤ) (p : Pt) (h : nat_abs d ≤ 510) (k : Close p) where
   times_back =
       rw (back d (omega arith), back p.x (omega (arith, k.x)), back p.y (omega (arith, k.y)), back (d *ℤ p.x) (omega (arith, scaled d p.x h k.x)), back (d *ℤ p.y) (omega (arith, scaled d p.y h k.y)))
 
+  pub times_far : Far (pt (word (word d *ℤ word p.x)) (word (word d *ℤ word p.y)))
+  times_far = rw times_back (record { x = omega (arith, scaled d p.x h k.x); y = omega (arith, scaled d p.y h k.y) })
+
 -- ---- a side
 gap_broad : (a b : ℤ) → nat_abs a ≤ 25067520 → nat_abs b ≤ 25067520 → Broad (a -ℤ b)
 gap_broad a b h k = omega (arith, abs_sub a b)

@@ -2,19 +2,20 @@
 use mathlib.Core.Path.{◌≡◌, ap, ◌∙◌}
 use native.Mathlib.Omega.{arith}
 use borrow.Author.Rules.{rules}
+use Rattle.std.specs.Prelude.{[]}
 use Prim.Native.Nat.{◌≤◌}
 use lib.IntN.{ℤ, pos, neg_ℤ, nat_abs, ◌-ℤ◌}
 use mir.Facts.{to_z_pos}
 use mir.Syntax.{w64}
+use mir.Val.{SFits}
 use Rattle.whole.proofs.Range.{read}
 use Rattle.rules.specs.Reach.{Run, Piece}
 use Rattle.decide.specs.Span.{Span, ticks, clip}
 use Rattle.decide.specs.Touch.{band_span}
 use Rattle.good.specs.Numbers.{run_of, piece_of}
-use Rattle.std.specs.Prelude.{[]}
 use Rattle.piece.specs.Sizes.{Slope}
 use Rattle.piece.proofs.Steps.{word}
-use Rattle.piece.proofs.Moving.{turned}
+use Rattle.piece.proofs.Moving.{turned, turned_fits}
 use Rattle.piece.proofs.Touch.{climb, over_bottom, under_top, slope_of}
 use Rattle.piece.proofs.mark.band_span.Goals as goal
 use Rattle.piece.proofs.mark.band_span.Goals.{After-gap-2}
@@ -58,6 +59,9 @@ module _ (c : After-gap-2) where
   steep : nat_abs (climb r k) ≤ 8589934592
   steep = omega (arith, bottom.slope)
 
+  turns : SFits w64 (pos 0 -ℤ i)
+  turns = rw e (turned_fits (climb r k) steep)
+
   back : word (pos 0 -ℤ i) ≡ neg_ℤ (climb r k)
   back = rw e (turned (climb r k) steep)
 
@@ -71,6 +75,9 @@ module _ (c : After-gap-2) where
   second : (t s : Span) → t ≡ clip (ticks n) u i → s ≡ clip t v (word (pos 0 -ℤ i)) → s ≡ band_span r k
   unfolding band_span
   second t s q l = rw (g, back) at l ∙ ap (λ (t : Span). clip t (k.top -ℤ r.start.z) (neg_ℤ (climb r k))) (first t q)
+
+pub overflow_sub-w : goal.overflow_sub-w
+overflow_sub-w c = turns (goal.at.overflow_sub-w c).After-gap-2
 
 pub clip-requires-2 : goal.clip-requires-2
 clip-requires-2 c = again (goal.at.clip-requires-2 c).After-gap-2

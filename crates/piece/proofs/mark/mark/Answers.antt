@@ -31,6 +31,11 @@ motion_of-requires c =
     let k = piece_of c.args.slab c.args.corners.now in
     (begins_close (run_of c.args.run) k c.requires.0 c.requires.1, motion_slow (run_of c.args.run) k c.requires.0 c.requires.1)
 
+pub band_span-requires : goal.band_span-requires
+band_span-requires c =
+    let h = level (run_of c.args.run) (piece_of c.args.slab c.args.corners.now) c.requires.0 c.requires.1 in
+    record { start = h.start; bottom = h.bottom; top = h.top; rise = h.rise; lift = h.lift; ticks = h.ticks }
+
 pub first_mark-requires : goal.first_mark-requires
 first_mark-requires c =
     let r = run_of c.args.run in

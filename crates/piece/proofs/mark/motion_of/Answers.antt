@@ -1,5 +1,6 @@
 -- `mark::motion_of` has the point and the difference of the velocities: its four numbers are read back. Assumes nothing.
 use mathlib.Core.Path.{◌≡◌, ◌∙◌}
+use native.Mathlib.Omega.{arith}
 use borrow.Author.Rules.{rules}
 use lib.IntN.{◌-ℤ◌}
 use mir.Syntax.{w64}
@@ -20,6 +21,12 @@ module _ (c : After-gap-2) where
 
   v : word c.gap-2.result ≡ c.args.run.vy -ℤ c.args.slab.vy
   v = read w64 c.gap-2.type_inv (c.gap-2.ensures ∙ search rules)
+
+pub invariant_of-result-2 : goal.invariant_of-result-2
+invariant_of-result-2 c =
+    let k = (goal.at.invariant_of-result-2 c).After-gap-2 in
+    let h = c.requires.1 in
+    record { far = rw (u k, v k) (record { x = omega (arith, h.x); y = omega (arith, h.y) }) }
 
 pub invariant_of-result-3 : goal.invariant_of-result-3
 invariant_of-result-3 c =
