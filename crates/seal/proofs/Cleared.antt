@@ -8,7 +8,7 @@ use lib.ListN.{length, take, drop, replicate, length-append, length-take, length
 use lib.Seq.{ext_get_or, get_or-take}
 use Rattle.whole.proofs.Order.{ℕ_or}
 use Rattle.seal.specs.Seal.{byte}
-use Rattle.seal.specs.Scan.{Clean, cleared}
+use Rattle.seal.specs.Scan.{cleared}
 use Rattle.seal.proofs.Bytes.{repeated, padded}
 use Rattle.seal.proofs.Replaced.{mid, mid_length, mid_before, mid_in, part_length}
 
@@ -25,7 +25,7 @@ module _ (from : ℕ) (l : List ℕ) where
   unfolding cleared
   cleared_past i h = padded (take from l) (length l - from) i ∙ get_or-eq_default (take from l) 0 {n = i} (omega (arith, length-take from l))
 
-  pub cleared_is : (after : List ℕ) → length after ≡ length l → ((i : ℕ) → i < from → byte after i ≡ byte l i) → Clean after from (length after) → after ≡ cleared from l
+  pub cleared_is : (after : List ℕ) → length after ≡ length l → ((i : ℕ) → i < from → byte after i ≡ byte l i) → ((i : ℕ) → from ≤ i → i < length after → byte after i ≡ 0) → after ≡ cleared from l
   cleared_is after n stays zeros =
       ext_get_or 0 after (cleared from l) (n ∙ sym cleared_length)
       (λ i h. ⊎_elim (λ (g : from ≤ i). zeros i g h ∙ sym (cleared_past i g)) (λ (g : i < from). stays i g ∙ sym (cleared_before i g)) (ℕ_or from i))

@@ -1,14 +1,10 @@
--- Bytes that are alike, or zero, or become zero, and the sums of some of a block's. Assumes nothing.
+-- Bytes that are alike, or become zero, and the sums of some of a block's. Assumes nothing.
 use Rattle.std.specs.Prelude.{◌≡◌, List, ◌++◌, ℕ, ◌+◌, ◌*◌, ◌-◌, ◌≤◌, ◌<◌, length, take, replicate}
 use Rattle.seal.specs.Seal.{body_size, byte, sum}
 
 -- the first 510 bytes are the same
 abbrev pub Alike : List ℕ → List ℕ → Type 0
 Alike l m = (i : ℕ) → i < body_size → byte l i ≡ byte m i
-
--- the bytes from here up to there are zero
-abbrev pub Clean : List ℕ → ℕ → ℕ → Type 0
-Clean l from to = (i : ℕ) → from ≤ i → i < to → byte l i ≡ 0
 
 -- the bytes before here, and zeros in the place of the others
 unfoldable pub cleared : ℕ → List ℕ → List ℕ

@@ -24,7 +24,7 @@ pub(crate) fn padded(bytes: &[u8], part: &[u8]) -> bool
     front == part && clean(rest)
 }
 
-// The first byte that is not zero.
+// The first byte that is not zero. Most often there is none, which is seen by many bytes at a time.
 fn first_set(bytes: &[u8]) -> Option<usize>
     ensures { Sought (λ j. byte bytes.now j ≡ 0 → ⊥) (length bytes.now) result }
 {
