@@ -29,8 +29,7 @@ fn step<'a>(
     table: &mut [Entry],
 ) -> Result<Seen<'a>, Refusal>
     requires { Room line.now i seen table.old }
-    ensures stepping { Stepping line.now i seen.entry table.old table.new result }
-    ensures table_len_unchanged { length table.new ≡ length table.old }
+    ensures { Stepping line.now i seen.entry table.old table.new result }
 {
     let above = seen.vertices;
     match read_line(line, above) {

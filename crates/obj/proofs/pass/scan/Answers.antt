@@ -15,14 +15,14 @@ returns-in_err-seen c =
     let f = c.first_line.ensures in
     let u = rw c.in-Some.is at c.loop-rest.invariant in
     let l = under_line _ _ _ _ _ _ _ f u in
-    rw (p.1, p.2) (under_fault _ _ _ _ _ _ _ f u _ (c.in_err-seen.ensures.stepping _ l u.holds))
+    rw (p.1, p.2) (under_fault _ _ _ _ _ _ _ f u _ (c.in_err-seen.ensures _ l u.holds))
 
 pub loop-rest-preserved : goal.loop-rest-preserved
 loop-rest-preserved c =
     let f = c.first_line.ensures in
     let u = rw c.in-Some.is at c.loop-rest.invariant in
     let l = under_line _ _ _ _ _ _ _ f u in
-    under_next _ _ _ _ _ _ _ f u _ _ c.step.ensures.table_len_unchanged (c.in_ok-seen.ensures.stepping _ l u.holds)
+    under_next _ _ _ _ _ _ _ f u _ _ c.step.auto.table (c.in_ok-seen.ensures _ l u.holds)
 
 pub returns : goal.returns
 returns c = under_end _ _ _ _ (rw c.in_default.is at c.loop-rest.invariant)

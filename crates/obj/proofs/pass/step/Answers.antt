@@ -14,7 +14,7 @@ use Rattle.line.specs.declared.Vertex.{Vertex}
 use Rattle.line.specs.declared.Said.TheVariants as said
 use Rattle.line.specs.Text.{lines}
 use Rattle.line.specs.Line.{Point, Line, passed, vertex, face, line_of, all_named}
-use Rattle.line.specs.Calls.{entry, said_of}
+use Rattle.line.specs.Calls.{vertex_of, said_of}
 use Rattle.line.proofs.Told.{no}
 use Rattle.line.proofs.Says.{said_passed, said_other, said_vertex, said_face, vertex_long}
 use Rattle.obj.specs.File.{line_at}
@@ -31,7 +31,7 @@ both v x y e f = rw (← e, ← f)
 
 -- a vertex, and room for it
 module _ (line : List ℕ) (k : ℕ) (v : Vertex) (e : said.Vertex v ≡ said_of k (line_of line)) where
-  vertex_in : (p : Point) × (line_of line ≡ vertex p) × (v ≡ record { x = entry p.x; y = entry p.y })
+  vertex_in : (p : Point) × (line_of line ≡ vertex p) × (v ≡ vertex_of p)
   vertex_in = let w = said_vertex k (line_of line) v (sym e) in (w.0, w.1, both v _ _ w.2 w.3)
 
   long : 7 ≤ length line
@@ -50,20 +50,20 @@ entry_of-requires c = near _ _ _ c.in-Vertex.ensures
 pub bounds-table-above : goal.bounds-table-above
 bounds-table-above c = let h = long _ _ _ c.in-Vertex.ensures in let r = c.requires in omega arith
 
-pub returns-in-Face-clause-stepping : goal.returns-in-Face-clause-stepping
-returns-in-Face-clause-stepping c file e h =
+pub returns-in-Face : goal.returns-in-Face
+returns-in-Face c file e h =
     let f = face_in _ _ _ c.in-Face.ensures in
     let s = face_seen file c.args.i c.args.seen.vertices c.args.table.now c.args.seen.face (sym c.is_some.ensures ∙ c.if-is_some.true) h.face in
     rw (add-one c.args.i) (second_fault _ _ _ _ h f.0 (is_line file _ _ _ e f.1) s.0 s.1)
 
-pub returns-in-Face-false-clause-stepping : goal.returns-in-Face-false-clause-stepping
-returns-in-Face-false-clause-stepping c file e h =
+pub returns-in-Face-false : goal.returns-in-Face-false
+returns-in-Face-false c file e h =
     let f = face_in _ _ _ c.in-Face.ensures in
     let none = none_seen file c.args.i c.args.seen.vertices c.args.table.now c.args.seen.face (sym c.is_some.ensures ∙ c.if-is_some.false) h.face in
     rw (add-one c.args.i) (unnamed_fault _ _ _ _ h f.0 (is_line file _ _ _ e f.1) none (f.2 ∙ c.in-Face-false.field-0-test))
 
-pub returns-in-Face-true-clause-stepping : goal.returns-in-Face-true-clause-stepping
-returns-in-Face-true-clause-stepping c file e h =
+pub returns-in-Face-true : goal.returns-in-Face-true
+returns-in-Face-true c file e h =
     let f = face_in _ _ _ c.in-Face.ensures in
     let l = is_line file _ c.args.i (face f.0) e f.1 in
     let all = f.2 ∙ c.in-Face-true.field-0-test in
@@ -74,16 +74,16 @@ returns-in-Face-true-clause-stepping c file e h =
       holds = face_holds _ _ _ _ h f.0 l _ f.1 refl all;
     }
 
-pub returns-in-Passed-clause-stepping : goal.returns-in-Passed-clause-stepping
-returns-in-Passed-clause-stepping c file e h =
+pub returns-in-Passed : goal.returns-in-Passed
+returns-in-Passed c file e h =
     let l = is_line file _ c.args.i passed e (said_passed _ _ (sym c.in-Passed.ensures)) in
     record { passes = plain_passes _ _ passed l (λ q. no (cc)) (λ ns q. no (cc)); bytes = omega arith; holds = passed_holds _ _ _ _ h l }
 
-pub returns-in-Other-clause-stepping : goal.returns-in-Other-clause-stepping
-returns-in-Other-clause-stepping c file e h = rw (add-one c.args.i) (other_fault _ _ (is_line file _ _ _ e (said_other _ _ (sym c.in-Other.ensures))))
+pub returns-in-Other : goal.returns-in-Other
+returns-in-Other c file e h = rw (add-one c.args.i) (other_fault _ _ (is_line file _ _ _ e (said_other _ _ (sym c.in-Other.ensures))))
 
-pub returns-in-Vertex-clause-stepping : goal.returns-in-Vertex-clause-stepping
-returns-in-Vertex-clause-stepping c file e h =
+pub returns-in-Vertex : goal.returns-in-Vertex
+returns-in-Vertex c file e h =
     let v = vertex_in _ _ _ c.in-Vertex.ensures in let s = long _ _ _ c.in-Vertex.ensures in let r = c.requires in
     let l = is_line file _ c.args.i (vertex v.0) e v.1 in
     record {
