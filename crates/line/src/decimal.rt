@@ -50,6 +50,7 @@ fn is_beyond(whole: u32, part: u32) -> bool
 }
 
 // The entry of whole + part/scale. The whole part is held against the reach first, so that nothing grows.
+#[tactic(auto, using(crate::proofs::Decimals::entered, crate::proofs::Decimals::grid_small))]
 fn grid_of(minus: bool, whole: u32, part: u32, scale: u32) -> Result<i32, Missed>
     requires { (part < scale) × (scale ≤ 1000000000) }
     ensures { Entered minus (whole * scale + part) scale result }
@@ -78,6 +79,7 @@ fn unsigned(w: &[u8], minus: bool) -> Option<Result<i32, Missed>>
 }
 
 // A decimal, or minus it.
+#[tactic(auto, using(crate::proofs::Decimals::minus_entry, crate::proofs::Decimals::plus_entry, crate::proofs::Decimals::plain_entry))]
 pub(crate) fn decimal(w: &[u8], turn: bool) -> Option<Result<i32, Missed>>
     ensures { result ≡ decimal_or turn w.now }
 {

@@ -31,6 +31,7 @@ fn is_after(rest: &[u8]) -> bool
 }
 
 // The vertex that an index names, of so many above the face.
+#[tactic(auto, using(crate::proofs::Corners::named_none, crate::proofs::Corners::named_one))]
 fn named(n: u32, minus: bool, above: u16) -> Result<usize, Unnamed>
     ensures { Named n minus above result }
 {

@@ -103,6 +103,7 @@ fn read_face(line: &[u8], above: u16) -> Said
 const PASSED: [&[u8]; 7] = [b"o", b"g", b"s", b"vn", b"vt", b"usemtl", b"mtllib"];
 
 // Whether a line that begins with this word is passed over.
+#[tactic(auto, using(crate::proofs::Words::among_is))]
 fn is_passed(w: &[u8]) -> bool
     ensures { result ≡ among w.now passed_words }
 {
