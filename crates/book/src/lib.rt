@@ -66,6 +66,7 @@ fn answer(book: &mut [u8], query: Query) -> Result<Asked, Refusal>
 }
 
 // Asks a book for a verdict: a hit is answered as remembered; otherwise it is worked out, and remembered in its home slot.
+#[tactic(auto, using(crate::proofs::Asking::run_faulty), unfolding(crate::specs::Ask::ask_checks))]
 pub fn ask(book: &mut [u8], run: Run, slab: Slab, corners: &[i32]) -> Result<Asked, Refusal>
     ensures { AskSays book.old book.new (run_of run) (piece_of slab corners.now) result }
 {

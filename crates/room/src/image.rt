@@ -9,6 +9,7 @@ use refusal::Refusal;
 use seal::SIZE;
 
 // Length, header, length against count.
+#[tactic(auto, using(crate::proofs::Images::not_whole))]
 pub(crate) fn head(image: &[u8]) -> Result<usize, RoomRefusal>
     ensures { HeadSays image.now result }
 {

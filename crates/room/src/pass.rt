@@ -35,6 +35,7 @@ fn codes_of(run: Run, image: &[u8], count: usize) -> Result<[u32; MOST], RoomRef
 }
 
 // The run, the room, and at last the list, which stays as it was unless nothing is refused.
+#[tactic(auto, using(crate::proofs::Coding::head_fault, crate::proofs::Coding::run_refused, crate::proofs::Coding::room_refused, crate::proofs::Coding::list_short))]
 pub fn verdicts(run: Run, image: &[u8], list: &mut [u32]) -> Result<usize, RoomRefusal>
     ensures { VerdictsSay (run_of run) image.now list.old list.new result }
 {

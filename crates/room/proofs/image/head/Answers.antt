@@ -1,19 +1,10 @@
 -- `room::image::head` meets its contract: length, header, length against count, in their order. Assumes nothing.
-use Rattle.std.proofs.Common.{List, ℕ, ◌%◌, ◌≡◌, ◌≤◌, length, arith}
+use Rattle.std.proofs.Common.{List, ℕ, ◌%◌, ◌≡◌, ◌≤◌, length}
 use Rattle.std.proofs.lemmas.Result.{err_from_is_err_and}
 use Rattle.seal.specs.Seal.{block_at}
 use Rattle.room.specs.Image.{Whole}
-use Rattle.room.proofs.Images.{not_whole, no_header, head_good, head_bad}
+use Rattle.room.proofs.Images.{no_header, head_good, head_bad}
 use Rattle.room.proofs.image.head.Goals as goal
-
-pub returns-then-size-ne0 : goal.returns-then-size-ne0
-returns-then-size-ne0 c = not_whole c.args.image.now (λ w. c.if-size-ne0.true w.whole) _ c.into.ensures
-
-pub returns-then-size-lt-SIZE : goal.returns-then-size-lt-SIZE
-returns-then-size-lt-SIZE c = not_whole c.args.image.now (λ w. let h = w.above in omega arith) _ c.into-then-size-lt-SIZE.ensures
-
-pub returns-then-size-gt65024 : goal.returns-then-size-gt65024
-returns-then-size-gt65024 c = not_whole c.args.image.now (λ w. let h = w.below in omega arith) _ c.into-then-size-gt65024.ensures
 
 whole : (image : List ℕ) → length image % 512 ≡ 0 → 512 ≤ length image → length image ≤ 65024 → Whole image
 whole image e f g = record { whole = e; above = f; below = g }
