@@ -32,12 +32,11 @@ fn corners_of(numbers: &[f32], count: usize) -> [Corner; 64]
     ensures { Paired numbers.now count result }
 {
     let mut corners = [Corner { x: 0.0, y: 0.0 }; 64];
-    let mut i = 0;
-    while i < count {
-        let x = numbers[2 * i];
-        let y = numbers[2 * i + 1];
-        corners[i] = Corner { x, y };
-        i += 1;
+    for i in 0..count {
+        corners[i] = Corner {
+            x: numbers[2 * i],
+            y: numbers[2 * i + 1],
+        };
     }
     corners
 }
@@ -46,16 +45,11 @@ fn corners_of(numbers: &[f32], count: usize) -> [Corner; 64]
 fn export(numbers: &[f32], list: &mut [i32]) -> Result<(), Refusal>
     ensures { Exported numbers.now list.old list.new result }
 {
-    let n = numbers.len();
-    if n % 2 != 0 {
+    let count = numbers.len() / 2;
+    if numbers.len() % 2 != 0 || 64 < count {
         return Err(Refusal::Corners);
     }
-    let count = n / 2;
-    if 64 < count {
-        return Err(Refusal::Corners);
-    }
-    let corners = corners_of(numbers, count);
-    intake::intake(corners, count, list)
+    intake::intake(corners_of(numbers, count), count, list)
 }
 
 #[unsafe(no_mangle)]

@@ -4,4 +4,4 @@ use Rattle.baker.proofs.export.export.Goals as goal
 
 pub returns : goal.returns
 returns c =
-    exported c.args.numbers.now c.corners_of-corners.result c.args.list.now c.intake.new.list c.intake.result c.if-n-ne0.false c.corners_of-corners.ensures c.intake.ensures
+    exported c.args.numbers.now c.corners_of.result c.args.list.now c.intake.new.list c.intake.result c.if-numbers-ne0.false c.corners_of.ensures c.intake.ensures
