@@ -7,7 +7,7 @@ use Prim.Native.Nat.{ℕ, zero, suc, ◌+◌, ◌*◌, ◌-◌, ◌≤◌, ◌<�
 use native.Mathlib.Omega.{arith}
 use native.Mathlib.Nat.{eq-or-lt_of_le}
 use borrow.Author.Tests.{not-true, not-false, lt-ltb, le-ltb, eqb-true, eqb-false, eq-eqb, ne_eqb}
-use lib.Dec.{eqb, ltb}
+use lib.Dec.{eqb}
 use lib.ListN.{length, get_or, take, drop, drop_of_length-le, length-drop}
 use lib.Seq.{drop-cons, drop-drop, length-take-le}
 use lib.Pointwise.{pointwise}
@@ -67,13 +67,6 @@ word_there line from to h = rw (lt-ltb from (length line) h)
 
 pub word_gone : (line : List ℕ) (from to : ℕ) → length line ≤ from → words_from line from to ≡ []
 word_gone line from to h = rw (le-ltb from (length line) h)
-
-pub words_after : (line : List ℕ) (from to : ℕ) (w : List ℕ) (ws : List (List ℕ)) → words_from line from to ≡ w ∷ ws → ws ≡ words (drop to line)
-words_after line from to w ws = by (ltb from (length line))
-  where
-    by : (t : Bool) → cond t (part from to line ∷ words (drop to line)) [] ≡ w ∷ ws → ws ≡ words (drop to line)
-    by true e = cc
-    by false e = cc
 
 module _ (line : List ℕ) (at from to : ℕ) (u : Until (λ b. not (blank b)) line at from) (v : Until blank line from to) where
   -- it is not empty, since it begins with a byte that is not blank
