@@ -1,5 +1,5 @@
 // Decimals, read exactly: the grid number of one, or what keeps it from the grid.
-ghost use Rattle.std.specs.Prelude.{◌≡◌, cond, ◌+◌, ◌*◌, ◌≤◌, ◌<◌, eqb, ltb};
+ghost use Rattle.std.specs.Prelude.{◌≡◌, cond, ◌+◌, ◌*◌, ◌^◌, ◌≤◌, ◌<◌, eqb, ltb};
 ghost use Rattle.line.specs.Steps.{digit_or, number_or, few_or, Entered, pointed_or, decimal_or};
 
 use crate::Missed;
@@ -23,11 +23,11 @@ pub(crate) fn number(w: &[u8]) -> Option<u32>
     if w.is_empty() {
         return None;
     }
-    let mut n = 0u32;
+    let mut n = 0u64;
     for &b in w {
-        n = n.saturating_mul(10).saturating_add(digit(b)?);
+        n = (10 * n + u64::from(digit(b)?)).min(u64::from(u32::MAX));
     }
-    Some(n)
+    Some(n as u32)
 }
 
 // The number that one to nine digits say.
@@ -36,6 +36,18 @@ fn few(w: &[u8]) -> Option<u32>
     ensures { result ≡ few_or w.now }
 {
     if 9 < w.len() { None } else { number(w) }
+}
+
+const TENS: [u32; 10] = [
+    1, 10, 100, 1000, 10000, 100000, 1000000, 10000000, 100000000, 1000000000,
+];
+
+// A power of ten, from a table: it is quicker than pow.
+fn power(n: usize) -> u32
+    requires { n ≤ 9 }
+    ensures { result ≡ 10 ^ n }
+{
+    TENS[n]
 }
 
 // Whether a whole number and a part of one are more than 1,024.
@@ -74,7 +86,7 @@ fn unsigned(w: &[u8], minus: bool) -> Option<Result<i32, Missed>>
     let n = few(whole)?;
     match part {
         None => Some(grid_of(minus, n, 0, 1)),
-        Some(part) => Some(grid_of(minus, n, few(part)?, 10u32.pow(part.len() as u32))),
+        Some(part) => Some(grid_of(minus, n, few(part)?, power(part.len()))),
     }
 }
 

@@ -28,7 +28,7 @@ loop-b-preserved c =
     let i = c.loop-b.b-index in
     let h : i < length w = c.loop-b-test.true in
     let d = given (digit (get_or w i 0)) (get_or w i 0 - 48) _ c.in_ok-digit.ensures in
-    let e : c.saturating_add-n.result ≡ saturated (10 * c.loop-b.n + (get_or w i 0 - 48)) = omega (arith, d.1, c.saturating_add-n.ensures, c.saturating_mul.ensures) in
+    let e : c.min-n.result ≡ saturated (10 * c.loop-b.n + (get_or w i 0 - 48)) = omega (arith, d.1, c.from.ensures, c.min-n.ensures) in
     record {
       small = omega arith;
       digits = c.loop-b.invariant.digits ∙ next_digit w i h d.0;

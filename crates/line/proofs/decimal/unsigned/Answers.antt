@@ -37,7 +37,7 @@ below_power b n p f e =
     (omega arith, omega arith)
 
 pub grid_of-requires-in-Some : goal.grid_of-requires-in-Some
-grid_of-requires-in-Some c = below_power c.in-Some.part.now _ _ (given _ _ _ c.in_ok-few-in-Some.ensures) c.pow.ensures
+grid_of-requires-in-Some c = below_power c.in-Some.part.now _ _ (given _ _ _ c.in_ok-few-in-Some.ensures) c.power.ensures
 
 whole_is : {a b s t p q : ℕ} → a ≡ b → s ≡ t → p ≡ q → a * s + p ≡ b * t + q
 whole_is e f g = cc
@@ -48,6 +48,6 @@ returns-in_ok-few-in-Some c =
     let b = c.in-Some.part.now in
     let f = given _ _ _ c.in_ok-n.ensures in
     let g = given _ _ _ c.in_ok-few-in-Some.ensures in
-    let e = whole_is f.1 c.pow.ensures g.1 in
-    ap Some (c.grid_of-in-Some.ensures (length b) c.pow.ensures ∙ ap (λ n. entry (record { negative = m; whole = n; places = length b })) e)
+    let e = whole_is f.1 c.power.ensures g.1 in
+    ap Some (c.grid_of-in-Some.ensures (length b) c.power.ensures ∙ ap (λ n. entry (record { negative = m; whole = n; places = length b })) e)
     ∙ sym (both_entry m c.args.w.now _ b (cut_some point _ _ c.cut.ensures _ c.in-Some.is) f.0 g.0)
