@@ -1,7 +1,6 @@
 // The book: two pieces that share home slot and sum, asked in turn; a forged entry; a damaged one.
-use crate::{Q, Score, coded, more, run, slab};
+use crate::{Q, Score, run, slab};
 use book::Asked;
-use good::Run;
 use piece::NONE;
 use refusal::Refusal;
 use std::io;
@@ -9,101 +8,72 @@ use std::io;
 // Another piece than Q with the same sum of bytes: its upper edge leans.
 const LEANING: [i32; 8] = [0, 0, 64, 0, 64, 63, 0, 65];
 
-// Worked out, a code; remembered, the same above 32 bits; or the refusal.
-fn answered(a: Result<Asked, Refusal>) -> u64 {
-    match a {
-        Ok(Asked::Worked(c)) => c as u64,
-        Ok(Asked::Remembered(c)) => c as u64 + REMEMBERED,
-        Err(r) => coded(r),
-    }
-}
-
-const REMEMBERED: u64 = 4294967296;
-
-const CLEAR: u64 = NONE as u64;
-
 // What a book answers for a run just above Q, and on the leaning piece's upper corner after four ticks.
-fn ask(pages: &mut [u8], corners: &[i32]) -> u64 {
+fn ask(pages: &mut [u8], corners: &[i32]) -> Result<Asked, Refusal> {
     let above = run(-64, 65, 16, 16, 0, 0, 4);
-    answered(book::ask(pages, above, slab(0), corners))
+    book::ask(pages, above, slab(0), corners)
 }
 
-fn asked(
-    rt: &impl Print,
-    s: Score,
-    name: &str,
-    pages: &mut [u8],
-    corners: &[i32],
-    answer: u64,
-) -> io::Result<Score> {
-    let a = ask(pages, corners);
-    more(rt, s, name, a == answer)
+// Corners that are asked about, and the answer.
+#[derive(Clone, Copy)]
+struct Asking<'a> {
+    name: &'a str,
+    corners: &'a [i32],
+    answer: Asked,
 }
 
-fn shared(rt: &impl Print, s: Score, pages: &mut [u8]) -> io::Result<Score> {
-    let s = asked(rt, s, "Q asked: worked out, clear", pages, &Q, CLEAR)?;
-    let s = asked(
-        rt,
-        s,
-        "Q asked again: remembered, clear",
-        pages,
-        &Q,
-        REMEMBERED + CLEAR,
-    )?;
-    let s = asked(
-        rt,
-        s,
-        "the leaning piece, same slot and sum: worked out, 1024",
-        pages,
-        &LEANING,
-        1024,
-    )?;
-    asked(
-        rt,
-        s,
-        "Q asked in turn: worked out, clear",
-        pages,
-        &Q,
-        CLEAR,
-    )
-}
-
-fn set(page: &mut [u8], at: usize, byte: u8) {
-    if at < page.len() {
-        page[at] = byte;
+fn shared(rt: &impl Print, score: &mut Score, pages: &mut [u8]) -> io::Result<()> {
+    let all = [
+        Asking {
+            name: "Q asked: worked out, clear",
+            corners: &Q,
+            answer: Asked::Worked(NONE),
+        },
+        Asking {
+            name: "Q asked again: remembered, clear",
+            corners: &Q,
+            answer: Asked::Remembered(NONE),
+        },
+        Asking {
+            name: "the leaning piece, same slot and sum: worked out, 1024",
+            corners: &LEANING,
+            answer: Asked::Worked(1024),
+        },
+        Asking {
+            name: "Q asked in turn: worked out, clear",
+            corners: &Q,
+            answer: Asked::Worked(NONE),
+        },
+    ];
+    for case in &all {
+        let answer = ask(pages, case.corners);
+        score.tell(rt, case.name, answer == Ok(case.answer))?;
     }
+    Ok(())
 }
 
 // Four bytes of 255 made 0: the mark 0 for clear, and both sums as they were.
-fn forge(page: &mut [u8]) {
-    set(page, 283, 0);
-    set(page, 284, 0);
-    set(page, 285, 0);
-    set(page, 286, 0);
-}
-
-fn forgery(rt: &impl Print, s: Score, page: &mut [u8]) -> io::Result<Score> {
-    ask(page, &Q);
-    forge(page);
-    asked(
+fn forgery(rt: &impl Print, score: &mut Score, page: &mut [u8; 512]) -> io::Result<()> {
+    let worked = ask(page, &Q) == Ok(Asked::Worked(NONE));
+    page[283..287].fill(0);
+    let forged = ask(page, &Q) == Ok(Asked::Remembered(0));
+    score.tell(
         rt,
-        s,
         "a forged sound entry: remembered as it says, 0",
-        page,
-        &Q,
-        REMEMBERED,
+        worked && forged,
     )
 }
 
-fn damage(rt: &impl Print, s: Score, page: &mut [u8]) -> io::Result<Score> {
-    set(page, 300, 1);
-    asked(rt, s, "a damaged entry: worked out, clear", page, &Q, CLEAR)
+fn damage(rt: &impl Print, score: &mut Score, page: &mut [u8; 512]) -> io::Result<()> {
+    page[300] = 1;
+    let worked = ask(page, &Q) == Ok(Asked::Worked(NONE));
+    score.tell(rt, "a damaged entry: worked out, clear", worked)
 }
 
-pub(crate) fn books(rt: &impl Print, s: Score) -> io::Result<Score> {
+pub(crate) fn books(rt: &impl Print, score: &mut Score) -> io::Result<()> {
     let mut pages = [0u8; 2048];
-    let s = shared(rt, s, &mut pages)?;
+    shared(rt, score, &mut pages)?;
     let mut page = [0u8; 512];
-    let s = forgery(rt, s, &mut page)?;
-    damage(rt, s, &mut page)
+    forgery(rt, score, &mut page)?;
+    damage(rt, score, &mut page)
 }

@@ -4,7 +4,7 @@
 
 use good::{Run, Slab};
 use grid::Taken;
-use piece::{NONE, Spot};
+use piece::Spot;
 use refusal::{Refusal, Row};
 use std::io;
 
@@ -25,6 +25,8 @@ const REACH: [i32; 6] = [-16384, -16384, 16384, -16384, 16384, 16384];
 
 const OVER: [i32; 6] = [-16384, -16384, 16384, -16384, 16385, 16384];
 
+const ZEROS: [i32; 1000] = [0; 1000];
+
 // How many were right, of how many.
 #[derive(Clone, Copy)]
 struct Score {
@@ -32,13 +34,19 @@ struct Score {
     all: u32,
 }
 
-fn more(rt: &impl Print, s: Score, name: &str, right: bool) -> io::Result<Score> {
-    let verdict = if right { "right" } else { "WRONG" };
-    println!(rt; "{verdict}  {name}")?;
-    Ok(Score {
-        right: std::num::wrapping_add_u32(s.right, right as u32),
-        all: std::num::wrapping_add_u32(s.all, 1),
-    })
+impl Score {
+    fn tell(&mut self, rt: &impl Print, name: &str, right: bool) -> io::Result<()> {
+        let verdict = if right { "right" } else { "WRONG" };
+        self.right = std::num::wrapping_add_u32(self.right, right as u32);
+        self.all = std::num::wrapping_add_u32(self.all, 1);
+        println!(rt; "{verdict}  {name}")
+    }
+}
+
+// A refusal as the table has it: its number, and its places a and b.
+fn row(x: Refusal) -> (usize, usize, usize) {
+    let row = Row::from(x);
+    (row.number, row.a, row.b)
 }
 
 fn run(x: i32, y: i32, z: i32, vx: i32, vy: i32, vz: i32, ticks: u32) -> Run {
@@ -64,215 +72,236 @@ fn slab(vx: i32) -> Slab {
     }
 }
 
-// A mark, or NONE for clear, or one less for a refusal.
-fn told(v: Result<Option<u32>, Refusal>) -> u32 {
-    match piece::coded(v) {
-        Ok(c) => c,
-        Err(_) => 0xFFFF_FFFE,
-    }
-}
-
-// A refusal as number, a, b in one; no more than 8, 24 and 16 bits of them.
-fn coded(r: Refusal) -> u64 {
-    let row = Row::from(r);
-    three(row.number, row.a, row.b)
-}
-
-fn three(n: usize, a: usize, b: usize) -> u64 {
-    ((n % 256) * 1099511627776 + (a % 16777216) * 65536 + b % 65536) as u64
-}
-
-fn refused(c: Result<(), Refusal>) -> u64 {
-    match c {
-        Ok(()) => 0,
-        Err(r) => coded(r),
-    }
-}
-
-fn where_is(p: Result<Spot, Refusal>) -> u64 {
-    match p {
-        Ok(Spot::On) => 2,
-        Ok(Spot::Inside) => 1,
-        Ok(Spot::Outside) => 0,
-        Err(r) => coded(r),
-    }
-}
-
-// The verdict of a run on corners that move so on x.
-fn ran(
-    rt: &impl Print,
-    s: Score,
-    name: &str,
-    r: Run,
+// A run on corners that move so on x, and the mark where it is blocked.
+#[derive(Clone, Copy)]
+struct Ran<'a> {
+    name: &'a str,
+    run: Run,
     vx: i32,
-    corners: &[i32],
-    code: u32,
-) -> io::Result<Score> {
-    let v = piece::verdict(r, slab(vx), corners);
-    more(rt, s, name, told(v) == code)
+    corners: &'a [i32],
+    mark: Option<u32>,
 }
 
-fn slow_runs(rt: &impl Print, s: Score) -> io::Result<Score> {
-    let s = ran(
-        rt,
-        s,
-        "run (-64,32,16) at (3,0,0) for 21 on Q: clear",
-        run(-64, 32, 16, 3, 0, 0, 21),
-        0,
-        &Q,
-        NONE,
-    )?;
-    let s = ran(
-        rt,
-        s,
-        "run (-64,32,16) at (8,0,0) for 8 on Q at (-8,0,0): 1024",
-        run(-64, 32, 16, 8, 0, 0, 8),
-        -8,
-        &Q,
-        1024,
-    )?;
-    ran(
-        rt,
-        s,
-        "run (48,200,16) at (0,-8,0) for 20 on U: clear",
-        run(48, 200, 16, 0, -8, 0, 20),
-        0,
-        &U,
-        NONE,
-    )
-}
-
-fn runs(rt: &impl Print, s: Score) -> io::Result<Score> {
-    let s = slow_runs(rt, s)?;
-    let s = ran(
-        rt,
-        s,
-        "run (-64,32,16) at (7,0,0) for 10 on Q: 2340, not 2341",
-        run(-64, 32, 16, 7, 0, 0, 10),
-        0,
-        &Q,
-        2340,
-    )?;
-    let s = ran(
-        rt,
-        s,
-        "run (-100,32,16) at (255,0,0) for 1 on Q: 100",
-        run(-100, 32, 16, 255, 0, 0, 1),
-        0,
-        &Q,
-        100,
-    )?;
-    ran(
-        rt,
-        s,
-        "run (32,32,40) at (0,0,-1) for 16 over Q, from above: 2048",
-        run(32, 32, 40, 0, 0, -1, 16),
-        0,
-        &Q,
-        2048,
-    )
+fn runs(rt: &impl Print, score: &mut Score) -> io::Result<()> {
+    let all = [
+        Ran {
+            name: "run (-64,32,16) at (3,0,0) for 21 on Q: clear",
+            run: run(-64, 32, 16, 3, 0, 0, 21),
+            vx: 0,
+            corners: &Q,
+            mark: None,
+        },
+        Ran {
+            name: "run (-64,32,16) at (8,0,0) for 8 on Q at (-8,0,0): 1024",
+            run: run(-64, 32, 16, 8, 0, 0, 8),
+            vx: -8,
+            corners: &Q,
+            mark: Some(1024),
+        },
+        Ran {
+            name: "run (48,200,16) at (0,-8,0) for 20 on U: clear",
+            run: run(48, 200, 16, 0, -8, 0, 20),
+            vx: 0,
+            corners: &U,
+            mark: None,
+        },
+        Ran {
+            name: "run (-64,32,16) at (7,0,0) for 10 on Q: 2340, not 2341",
+            run: run(-64, 32, 16, 7, 0, 0, 10),
+            vx: 0,
+            corners: &Q,
+            mark: Some(2340),
+        },
+        Ran {
+            name: "run (-100,32,16) at (255,0,0) for 1 on Q: 100",
+            run: run(-100, 32, 16, 255, 0, 0, 1),
+            vx: 0,
+            corners: &Q,
+            mark: Some(100),
+        },
+        Ran {
+            name: "run (32,32,40) at (0,0,-1) for 16 over Q, from above: 2048",
+            run: run(32, 32, 40, 0, 0, -1, 16),
+            vx: 0,
+            corners: &Q,
+            mark: Some(2048),
+        },
+    ];
+    for case in &all {
+        let verdict = piece::verdict(case.run, slab(case.vx), case.corners);
+        score.tell(rt, case.name, verdict == Ok(case.mark))?;
+    }
+    Ok(())
 }
 
 // Where a point lies in U.
-fn placed(rt: &impl Print, s: Score, name: &str, x: i32, y: i32, answer: u64) -> io::Result<Score> {
-    let p = piece::place(x, y, &U);
-    more(rt, s, name, where_is(p) == answer)
+#[derive(Clone, Copy)]
+struct Placed<'a> {
+    name: &'a str,
+    x: i32,
+    y: i32,
+    answer: Result<Spot, (usize, usize, usize)>,
 }
 
-fn places(rt: &impl Print, s: Score) -> io::Result<Score> {
-    let s = placed(rt, s, "(32,-16) in U: outside", 32, -16, 0)?;
-    let s = placed(rt, s, "(48,16) in U: inside", 48, 16, 1)?;
-    let s = placed(rt, s, "(48,32) in U: on", 48, 32, 2)?;
-    let s = placed(rt, s, "(16385,0) in U: 4 at 2", 16385, 0, three(4, 2, 0))?;
-    placed(
-        rt,
-        s,
-        "(16384,-16385) in U: 4 at 4",
-        16384,
-        -16385,
-        three(4, 4, 0),
-    )
+fn places(rt: &impl Print, score: &mut Score) -> io::Result<()> {
+    let all = [
+        Placed {
+            name: "(32,-16) in U: outside",
+            x: 32,
+            y: -16,
+            answer: Ok(Spot::Outside),
+        },
+        Placed {
+            name: "(48,16) in U: inside",
+            x: 48,
+            y: 16,
+            answer: Ok(Spot::Inside),
+        },
+        Placed {
+            name: "(48,32) in U: on",
+            x: 48,
+            y: 32,
+            answer: Ok(Spot::On),
+        },
+        Placed {
+            name: "(16385,0) in U: 4 at 2",
+            x: 16385,
+            y: 0,
+            answer: Err((4, 2, 0)),
+        },
+        Placed {
+            name: "(16384,-16385) in U: 4 at 4",
+            x: 16384,
+            y: -16385,
+            answer: Err((4, 4, 0)),
+        },
+    ];
+    for case in &all {
+        let spot = piece::place(case.x, case.y, &U).map_err(row);
+        score.tell(rt, case.name, spot == case.answer)?;
+    }
+    Ok(())
 }
 
 // What corners are refused with.
-fn held(
-    rt: &impl Print,
-    s: Score,
-    name: &str,
-    corners: &[i32],
-    n: usize,
-    a: usize,
-    b: usize,
-) -> io::Result<Score> {
-    let c = good::check_piece(slab(0), corners);
-    more(rt, s, name, refused(c) == three(n, a, b))
+#[derive(Clone, Copy)]
+struct Held<'a> {
+    name: &'a str,
+    corners: &'a [i32],
+    answer: Result<(), (usize, usize, usize)>,
 }
 
-fn footprints(rt: &impl Print, s: Score) -> io::Result<Score> {
-    let s = held(rt, s, "Q turned round: 9", &TURNED, 9, 0, 0)?;
-    let s = held(rt, s, "crossed: 8 at 0, 2", &CROSSED, 8, 0, 2)?;
-    let s = held(rt, s, "folded: 7 at 1", &FOLDED, 7, 1, 0)?;
-    let s = held(rt, s, "the ends of reach are taken", &REACH, 0, 0, 0)?;
-    held(rt, s, "one beyond: 4 at 20", &OVER, 4, 20, 0)
+fn check_all(rt: &impl Print, score: &mut Score, cases: &[Held]) -> io::Result<()> {
+    for case in cases {
+        let checked = good::check_piece(slab(0), case.corners).map_err(row);
+        score.tell(rt, case.name, checked == case.answer)?;
+    }
+    Ok(())
 }
 
-// So many numbers, of a thousand; the remainder only shows that there are so many.
-fn miscounted(rt: &impl Print, s: Score, name: &str, n: usize) -> io::Result<Score> {
-    let zeros = [0i32; 1000];
-    held(rt, s, name, &zeros[..n % 1001], 5, 0, 0)
+fn footprints(rt: &impl Print, score: &mut Score) -> io::Result<()> {
+    let all = [
+        Held {
+            name: "Q turned round: 9",
+            corners: &TURNED,
+            answer: Err((9, 0, 0)),
+        },
+        Held {
+            name: "crossed: 8 at 0, 2",
+            corners: &CROSSED,
+            answer: Err((8, 0, 2)),
+        },
+        Held {
+            name: "folded: 7 at 1",
+            corners: &FOLDED,
+            answer: Err((7, 1, 0)),
+        },
+        Held {
+            name: "the ends of reach are taken",
+            corners: &REACH,
+            answer: Ok(()),
+        },
+        Held {
+            name: "one beyond: 4 at 20",
+            corners: &OVER,
+            answer: Err((4, 20, 0)),
+        },
+    ];
+    check_all(rt, score, &all)
 }
 
-fn lengths(rt: &impl Print, s: Score) -> io::Result<Score> {
-    let s = miscounted(rt, s, "no number: 5", 0)?;
-    let s = miscounted(rt, s, "1 number: 5", 1)?;
-    let s = miscounted(rt, s, "5 numbers: 5", 5)?;
-    let s = miscounted(rt, s, "7 numbers: 5", 7)?;
-    let s = miscounted(rt, s, "129 numbers: 5", 129)?;
-    let s = miscounted(rt, s, "130 numbers: 5", 130)?;
-    miscounted(rt, s, "1000 numbers: 5", 1000)
+// So many numbers, where no footprint has so many.
+fn miscounted<'a>(name: &'a str, corners: &'a [i32]) -> Held<'a> {
+    Held {
+        name,
+        corners,
+        answer: Err((5, 0, 0)),
+    }
 }
 
-// What an exported number is: a grid number, off grid over another, no number, or out of reach.
-fn taken(
-    rt: &impl Print,
-    s: Score,
-    name: &str,
+fn lengths(rt: &impl Print, score: &mut Score) -> io::Result<()> {
+    let all = [
+        miscounted("no number: 5", &ZEROS[..0]),
+        miscounted("1 number: 5", &ZEROS[..1]),
+        miscounted("5 numbers: 5", &ZEROS[..5]),
+        miscounted("7 numbers: 5", &ZEROS[..7]),
+        miscounted("129 numbers: 5", &ZEROS[..129]),
+        miscounted("130 numbers: 5", &ZEROS[..130]),
+        miscounted("1000 numbers: 5", &ZEROS),
+    ];
+    check_all(rt, score, &all)
+}
+
+// What an exported number is.
+#[derive(Clone, Copy)]
+struct Exported<'a> {
+    name: &'a str,
     x: f32,
-    kind: u32,
-    k: i32,
-    below: f32,
-) -> io::Result<Score> {
-    let right = match grid::take(x) {
-        Taken::Grid(n) => (kind == 0) & (n == k),
-        Taken::OffGrid(w) => (kind == 1) & (w == below),
-        Taken::NotNumber => kind == 2,
-        Taken::Beyond => kind == 3,
-    };
-    more(rt, s, name, right)
+    answer: Taken,
 }
 
-fn numbers(rt: &impl Print, s: Score) -> io::Result<Score> {
-    let s = taken(rt, s, "1024 is taken as 16384", 1024.0, 0, 16384, 0.0)?;
-    let s = taken(rt, s, "1024.0625 is out of reach", 1024.0625, 3, 0, 0.0)?;
-    taken(
-        rt,
-        s,
-        "-0.03125 is off grid over -0.0625",
-        -0.03125,
-        1,
-        0,
-        -0.0625,
-    )
+fn equal(a: Taken, b: Taken) -> bool {
+    match (a, b) {
+        (Taken::Grid(j), Taken::Grid(k)) => j == k,
+        (Taken::OffGrid(v), Taken::OffGrid(w)) => v == w,
+        (Taken::NotNumber, Taken::NotNumber) => true,
+        (Taken::Beyond, Taken::Beyond) => true,
+        _ => false,
+    }
+}
+
+fn numbers(rt: &impl Print, score: &mut Score) -> io::Result<()> {
+    let all = [
+        Exported {
+            name: "1024 is taken as 16384",
+            x: 1024.0,
+            answer: Taken::Grid(16384),
+        },
+        Exported {
+            name: "1024.0625 is out of reach",
+            x: 1024.0625,
+            answer: Taken::Beyond,
+        },
+        Exported {
+            name: "-0.03125 is off grid over -0.0625",
+            x: -0.03125,
+            answer: Taken::OffGrid(-0.0625),
+        },
+    ];
+    for case in &all {
+        score.tell(rt, case.name, equal(grid::take(case.x), case.answer))?;
+    }
+    Ok(())
 }
 
 fn main(rt: HostRuntime) -> io::Result<()> {
-    let s = Score { right: 0, all: 0 };
-    let s = runs(&rt, s)?;
-    let s = places(&rt, s)?;
-    let s = footprints(&rt, s)?;
-    let s = lengths(&rt, s)?;
-    let s = numbers(&rt, s)?;
-    let s = books::books(&rt, s)?;
-    let s = files::files(&rt, s)?;
-    println!(rt; "{} right of {}", s.right, s.all)
+    let mut score = Score { right: 0, all: 0 };
+    runs(&rt, &mut score)?;
+    places(&rt, &mut score)?;
+    footprints(&rt, &mut score)?;
+    lengths(&rt, &mut score)?;
+    numbers(&rt, &mut score)?;
+    books::books(&rt, &mut score)?;
+    files::files(&rt, &mut score)?;
+    println!(rt; "{} right of {}", score.right, score.all)
 }

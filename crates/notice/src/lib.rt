@@ -6,17 +6,20 @@ ghost use Rattle.refusal.specs.Said.{said, said_in};
 ghost use Rattle.print.specs.Put.{Puts};
 ghost use Rattle.notice.specs.Notice.{run_line, room_line};
 
-use print::{put_byte, put_field};
+use print::Page;
 use refusal::{Refusal, Row};
 
 // A refused run.
+#[tactic(auto, using(print::proofs::Put::then), unfolding(crate::specs::Notice::run_line))]
 pub fn run_line(out: &mut [u8], x: Refusal) -> usize
     ensures puts { Puts out.old 0 (run_line (said x)) out.new result }
     ensures upper_bound { result ≤ 128 }
 {
     let row = Row::from(x);
-    let next = put_field(out, 0, b"refused run ", row.number);
-    put_byte(out, next, b'\n')
+    let mut line = Page { out, at: 0 };
+    line.field(b"refused run ", row.number);
+    line.byte(b'\n');
+    line.at
 }
 
 // A refused room, or a wrong length.
@@ -25,9 +28,11 @@ pub fn room_line(out: &mut [u8], x: Refusal, block: usize) -> usize
     ensures upper_bound { result ≤ 128 }
 {
     let row = Row::from(x);
-    let number = put_field(out, 0, b"refused ", row.number);
-    let place = put_field(out, number, b" block ", block);
-    let first = put_field(out, place, b" at ", row.a);
-    let second = put_field(out, first, b" ", row.b);
-    put_byte(out, second, b'\n')
+    let mut page = Page { out, at: 0 };
+    page.field(b"refused ", row.number);
+    page.field(b" block ", block);
+    page.field(b" at ", row.a);
+    page.field(b" ", row.b);
+    page.byte(b'\n');
+    page.at
 }

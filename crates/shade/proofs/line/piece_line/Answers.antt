@@ -5,4 +5,4 @@ use Rattle.shade.proofs.line.piece_line.Goals as goal
 
 pub returns-clause-puts : goal.returns-clause-puts
 unfolding piece_line
-returns-clause-puts c = then c.put_number-answer.ensures.puts (then c.put_answer-end.ensures.puts c.put_byte.ensures)
+returns-clause-puts c = then c.number.ensures.puts (then c.put_answer.ensures.puts c.byte.ensures.puts)

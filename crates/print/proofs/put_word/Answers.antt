@@ -1,8 +1,0 @@
--- `print::put_word` meets its contract: what is put so far is the bytes of the word that were passed. Assumes nothing.
-use Rattle.std.proofs.Common.{arith, add-one, take-suc}
-use Rattle.print.proofs.Put.{then}
-use Rattle.print.proofs.put_word.Goals as goal
-
-pub loop-byte-preserved : goal.loop-byte-preserved
-loop-byte-preserved c =
-    rw (add-one, take-suc c.args.word.now c.loop-byte.byte-index 0 (omega arith)) (then c.loop-byte.invariant c.put_byte-next.ensures)
