@@ -2,19 +2,16 @@
 use Rattle.grid.specs.declared.Taken.TheVariants.{Grid}
 use Rattle.std.specs.Prelude.{Ok, Err}
 use mathlib.Core.Path.{◌≡◌, refl, sym, subst, ◌∙◌}
-use mathlib.Core.Logic.{inl, inr, ⊎_elim}
+use mathlib.Core.Logic.{inl, inr}
 use mathlib.Core.List.{List, [], ◌∷◌, ◌++◌}
 use Prim.Native.Nat.{ℕ, zero, suc, ◌+◌, ◌*◌, ◌/◌, ◌%◌, ◌≤◌, ◌<◌}
 use native.Mathlib.Omega.{arith}
 use lib.IntN.{ℤ, pos}
-use lib.ListN.{length, get_or, set}
-use lib.Seq.{get_or-set_same, get_or-set_other}
+use lib.ListN.{length, get_or}
 use lib.Ieee.{Float, nan}
-use Rattle.whole.proofs.Order.{ℕ_or}
 use Rattle.rules.specs.Reach.{Corners}
 use Rattle.rules.specs.Refusal.{Check, demand, refuse, in_turn}
-use Rattle.refusal.specs.Said.{Finds}
-use Rattle.refusal.specs.Said.{Checked}
+use Rattle.refusal.specs.Said.{Finds, Checked}
 use Rattle.refusal.specs.declared.Refusal.TheVariants as refusal
 use Rattle.refusal.proofs.Finds.{finds_after}
 use Rattle.intake.specs.declared.Corner.{Corner}
@@ -25,14 +22,6 @@ use Rattle.baker.specs.Export.{corners, export_checks, Exported, Paired}
 -- corner i of an export
 abbrev pub at : List Float → ℕ → Corner
 at xs i = record { x = get_or xs (2 * i) nan; y = get_or xs (2 * i + 1) nan }
-
--- ---- one corner more
-pub paired_more : (xs : List Float) (n : ℕ) (cs : List Corner) (c : Corner) → n < length cs → c ≡ at xs n → Paired xs n cs → Paired xs (n + 1) (set cs n c)
-paired_more xs n cs c h e p i k =
-    ⊎_elim
-    (λ (g : n ≤ i). let q : i ≡ n = omega arith in rw (q, get_or-set_same cs n c (record { x = nan; y = nan }) h) e)
-    (λ (g : i < n). get_or-set_other cs n i c (record { x = nan; y = nan }) (λ q. absurd (omega arith)) ∙ p i g)
-    (ℕ_or n i)
 
 -- ---- the corners of an export are its pairs
 next : (i : ℕ) → 2 * suc i ≡ suc (suc (2 * i))

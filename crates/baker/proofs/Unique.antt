@@ -11,8 +11,7 @@ use Rattle.rules.specs.Refusal.{refuse}
 use Rattle.rules.specs.Ring.{Pt}
 use Rattle.rules.specs.Good.{run_checks, piece_checks}
 use Rattle.rules.proofs.Checks.{AllDefinite, definite_demand}
-use Rattle.refusal.specs.Said.{Finds, Writes}
-use Rattle.refusal.specs.Said.{Checked}
+use Rattle.refusal.specs.Said.{Finds, Writes, Checked}
 use Rattle.refusal.proofs.Unique.{finds_one}
 use Rattle.good.specs.declared.Run as plain
 use Rattle.good.specs.declared.Slab.{Slab}

@@ -3,8 +3,7 @@ use Rattle.grid.specs.declared.Taken.TheVariants.{Grid, OffGrid, NotNumber, Beyo
 use Rattle.std.specs.Prelude.{◌≡◌, List, [], ◌∷◌, ℕ, ◌+◌, ◌*◌, ◌/◌, ◌%◌, ◌<◌, ℤ, length, get_or, Float}
 use Rattle.std.specs.Float.{nan}
 use Rattle.rules.specs.Refusal.{Check, demand, refuse}
-use Rattle.refusal.specs.Said.{Finds}
-use Rattle.refusal.specs.Said.{Checked}
+use Rattle.refusal.specs.Said.{Finds, Checked}
 use Rattle.intake.specs.declared.Corner.{Corner}
 use Rattle.grid.specs.declared.Taken.{Taken}
 use Rattle.intake.specs.Footprint.{corner_at, intake_checks, Later}

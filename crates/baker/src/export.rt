@@ -8,6 +8,7 @@ use grid::{Taken, take};
 use intake::Corner;
 use refusal::Refusal;
 
+// A case is a number and what it holds is written where C lends it, since C has no enum with parts.
 #[unsafe(no_mangle)]
 pub extern "C" fn baker_take(x: f32, grid: &mut i32, floor: &mut f32) -> u64
     ensures { TakeGives x grid.old floor.old grid.new floor.new result }
@@ -26,7 +27,7 @@ pub extern "C" fn baker_take(x: f32, grid: &mut i32, floor: &mut f32) -> u64
     }
 }
 
-// The first corners of an export.
+// The first corners of an export, in an array of the most that a footprint has, since nothing is on a heap.
 fn corners_of(numbers: &[f32], count: usize) -> [Corner; 64]
     requires { (count ≤ 64) × (2 * count ≤ length numbers.now) }
     ensures { Paired numbers.now count result }

@@ -75,7 +75,7 @@ impl Code for usize {
     }
 }
 
-// A verdict.
+// A verdict: C has no Option, and the header says NONE for clear.
 impl Code for Option<u32> {
     ghost means = { mark_means };
 

@@ -6,7 +6,7 @@ ghost use Rattle.print.specs.Put.{Puts};
 use piece::NONE;
 use print::Page;
 
-// A piece's answer, and the mark where blocked.
+// A piece's answer, and the mark where blocked: the lent list of a room's verdicts has NONE for clear.
 fn put_answer(out: &mut Page, code: u32)
     ensures same { out.new.out.ghost_name ≡ out.old.out.ghost_name }
     ensures puts { Puts out.old.out.now out.old.at (answered code) out.new.out.now out.new.at }
