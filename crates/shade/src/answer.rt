@@ -1,5 +1,4 @@
 // The text that answers an input: a run block, then a room image.
-ghost use Rattle.std.specs.Prelude.{◌≤◌, length};
 ghost use Rattle.good.specs.Numbers.{run_of};
 ghost use Rattle.refusal.specs.Said.{Finds};
 ghost use Rattle.io.specs.Counts.{IsPrefixLen};
@@ -14,6 +13,9 @@ use refusal::Refusal;
 use room::verdicts;
 use seal::SIZE;
 
+// No text that answers is longer: the line of the count, and a line for each of 126 pieces.
+pub(crate) const LONGEST: usize = 6328;
+
 #[tactic(auto, unfolding(crate::specs::Text::length_checks))]
 fn check_length(input: &[u8]) -> Result<(), Refusal>
     ensures { Finds (length_checks input.now) result }
@@ -26,8 +28,8 @@ fn check_length(input: &[u8]) -> Result<(), Refusal>
 }
 
 // A good run: the room's verdicts. The list has an element for each piece that a room can have, so it is never too short.
-fn answer_room(run: Run, input: &[u8], out: &mut [u8]) -> usize
-    requires { (6328 ≤ length out.old) × Whole input.now × RunGood (run_part input.now) (run_of run) }
+fn answer_room(run: Run, input: &[u8], out: &mut [u8; LONGEST]) -> usize
+    requires { Whole input.now × RunGood (run_part input.now) (run_of run) }
     ensures { Prints input.now out.old out.new result }
 {
     let mut codes = [0u32; MOST];
@@ -38,8 +40,8 @@ fn answer_room(run: Run, input: &[u8], out: &mut [u8]) -> usize
 }
 
 // The run block by itself first: its refusals look like a header's.
-fn answer_blocks(input: &[u8], out: &mut [u8]) -> usize
-    requires { (6328 ≤ length out.old) × Whole input.now }
+fn answer_blocks(input: &[u8], out: &mut [u8; LONGEST]) -> usize
+    requires { Whole input.now }
     ensures { Prints input.now out.old out.new result }
 {
     match read_run(&input[..SIZE]) {
@@ -48,8 +50,7 @@ fn answer_blocks(input: &[u8], out: &mut [u8]) -> usize
     }
 }
 
-pub(crate) fn answer(input: &[u8], out: &mut [u8]) -> usize
-    requires { 6328 ≤ length out.old }
+pub(crate) fn answer(input: &[u8], out: &mut [u8; LONGEST]) -> usize
     ensures prints { Prints input.now out.old out.new result }
     ensures prefix_len { IsPrefixLen result out.new }
 {

@@ -7,6 +7,7 @@ mod line;
 ghost use Rattle.std.specs.Prelude.{IfOk};
 ghost use Rattle.io.specs.Counts.{IsPrefixLen};
 
+use answer::{LONGEST, answer};
 use std::io;
 use std::io::Read;
 
@@ -31,7 +32,7 @@ fn read_full<R: Read>(reader: &mut R, buf: &mut [u8]) -> io::Result<usize>
 fn main(rt: HostRuntime) -> io::Result<()> {
     let mut input = [0u8; 65537];
     let n = read_full(&mut rt.reader(), &mut input)?;
-    let mut out = [0u8; 6328];
-    let k = answer::answer(&input[..n], &mut out);
+    let mut out = [0u8; LONGEST];
+    let k = answer(&input[..n], &mut out);
     rt.write_all(&out[..k])
 }

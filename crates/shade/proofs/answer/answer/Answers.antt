@@ -7,7 +7,7 @@ use Rattle.shade.proofs.answer.answer.Goals as goal
 
 pub answer_blocks-requires : goal.answer_blocks-requires
 unfolding length_checks
-answer_blocks-requires c = (c.requires, c.in-Ok.ensures.0)
+answer_blocks-requires c = c.in-Ok.ensures.0
 
 pub returns-in-Err-clause-prints : goal.returns-in-Err-clause-prints
 returns-in-Err-clause-prints c =
@@ -16,6 +16,6 @@ returns-in-Err-clause-prints c =
     record {
       text = _;
       answers = bad_length _ f (ap room_line (alone c.args.input.now _ f));
-      room = whole p (omega (arith, c.room_line.ensures.upper_bound)) c.requires;
+      room = whole p (omega (arith, c.room_line.ensures.upper_bound)) (omega arith);
       puts = p;
     }

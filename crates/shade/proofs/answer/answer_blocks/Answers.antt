@@ -12,7 +12,7 @@ returns-in-Err c =
     let p = c.run_line.ensures.puts in
     record {
       text = _;
-      answers = bad_run c.requires.1 _ c.in-Err.ensures refl;
-      room = whole p (omega (arith, c.run_line.ensures.upper_bound)) c.requires.0;
+      answers = bad_run c.requires _ c.in-Err.ensures refl;
+      room = whole p (omega (arith, c.run_line.ensures.upper_bound)) (omega arith);
       puts = p;
     }

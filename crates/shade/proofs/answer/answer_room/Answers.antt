@@ -13,14 +13,19 @@ slice_bounds-put_page-end c =
     let w = c.in-Ok.ensures in
     omega (arith, few (run_of c.args.run) _ _ _ _ w, w.stays.size, length-take c.in-Ok.n c.verdicts.new.list)
 
+pub slice_bounds-put_page-end-in-Ok : goal.slice_bounds-put_page-end-in-Ok
+slice_bounds-put_page-end-in-Ok c =
+    let w = c.in-Ok.ensures in
+    omega (arith, few (run_of c.args.run) _ _ _ _ w, w.stays.size, length-take c.in-Ok.n c.verdicts.new.list)
+
 pub returns-in-Err : goal.returns-in-Err
 returns-in-Err c =
     let run = run_of c.args.run in
-    let f = rw (rest c.args.input.now) at (room_fault run _ _ c.requires.2.good (omega arith) _ c.in-Err.ensures.0) in
+    let f = rw (rest c.args.input.now) at (room_fault run _ _ c.requires.1.good (omega arith) _ c.in-Err.ensures.0) in
     record {
       text = _;
-      answers = bad_room c.requires.1 run c.requires.2 _ f refl;
-      room = whole c.room_line.ensures.puts (omega (arith, c.room_line.ensures.upper_bound)) c.requires.0;
+      answers = bad_room c.requires.0 run c.requires.1 _ f refl;
+      room = whole c.room_line.ensures.puts (omega (arith, c.room_line.ensures.upper_bound)) (omega arith);
       puts = c.room_line.ensures.puts;
     }
 
@@ -32,7 +37,7 @@ returns-in-Ok c =
     let long : c.in-Ok.n ≤ length c.verdicts.new.list = omega (arith, n, w.stays.size) in
     record {
       text = _;
-      answers = verdicts c.requires.1 run c.requires.2 (printed run c.args.input.now _ _ _ w long);
-      room = whole c.put_page.ensures.puts (omega (arith, c.put_page.ensures.upper_bound, codes_long run c.args.input.now _ _ _ w long, n)) c.requires.0;
+      answers = verdicts c.requires.0 run c.requires.1 (printed run c.args.input.now _ _ _ w long);
+      room = whole c.put_page.ensures.puts (omega (arith, c.put_page.ensures.upper_bound, codes_long run c.args.input.now _ _ _ w long, n)) (omega arith);
       puts = c.put_page.ensures.puts;
     }
