@@ -1,8 +1,7 @@
 // Numbers into a lent list.
-ghost use Rattle.std.specs.Prelude.{◌≡◌, [], ◌*◌, ◌≤◌, take};
-ghost use Rattle.good.specs.Numbers.{run_of, piece_of};
+ghost use Rattle.std.specs.Prelude.{◌≡◌, ◌≤◌};
+ghost use Rattle.good.specs.Numbers.{run_of};
 ghost use Rattle.block.specs.Layout.{run_numbers};
-ghost use Rattle.piece_block.specs.Layout.{piece_numbers};
 ghost use Rattle.coding.specs.Coded.{out, coded};
 ghost use Rattle.baker.specs.Listed.{run_listed, piece_found};
 

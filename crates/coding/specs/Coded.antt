@@ -1,4 +1,4 @@
--- One number for each answer of the library, and what a call promises by it. Each public function of the crate answers what a definition here makes of what it is
+-- One number for each answer of the library, and what a call promises by it. Each `code` of the crate answers what a definition here makes of what it is
 -- given: by that equality nothing else meets its contract. Assumes nothing.
 use Rattle.std.specs.Prelude.{◌≡◌, ℕ, ◌+◌, ◌*◌, ◌%◌, ◌^◌, Option, None, Some, Result, Ok, Err}
 use Rattle.rules.specs.Refusal.{Refusal}

@@ -1,14 +1,15 @@
--- The table of boxes: one edge more. Assumes nothing.
+-- The table of boxes: one edge more, and two edges of it. Assumes nothing.
 use mathlib.Core.Path.{◌≡◌, ◌∙◌}
 use mathlib.Core.List.{List}
 use mathlib.Core.Logic.{⊎_elim}
 use Prim.Native.Nat.{ℕ, ◌+◌, ◌≤◌, ◌<◌}
 use native.Mathlib.Omega.{arith}
-use lib.ListN.{length, set}
+use lib.ListN.{length, get_or, set}
 use lib.Seq.{get_or-set_same, get_or-set_other}
 use Rattle.whole.proofs.Order.{ℕ_or}
 use Rattle.rules.specs.Ring.{Pt, Ring, from, to}
-use Rattle.footprint.specs.Table.{extent_of, AllBoxed}
+use Rattle.footprint.specs.Shape.{boxes_apart}
+use Rattle.footprint.specs.Table.{extent_of, extents_apart, AllBoxed}
 use Rattle.footprint.specs.declared.extent.Extent.{Extent}
 
 pub boxed_more : (r : Ring) (t : List Extent) (i : ℕ) (e : Extent) (a b : Pt) → i < length t → AllBoxed r t i → e ≡ extent_of a b → a ≡ from r i → b ≡ to r i → AllBoxed r (set t i e) (i + 1)
@@ -18,3 +19,8 @@ boxed_more r t i e a b h p q u v j d l =
   where
     new : e ≡ extent_of (from r i) (to r i)
     new = rw (← u, ← v) q
+
+-- ---- two boxes
+pub boxed_apart : (r : Ring) (t : List Extent) (n i j : ℕ) (d e : Extent) → AllBoxed r t n → i < n → j < n
+    → extents_apart (get_or t i d) (get_or t j e) ≡ boxes_apart (from r i) (to r i) (from r j) (to r j)
+boxed_apart r t n i j d e p h k = rw (p i d h, p j e k)

@@ -1,5 +1,5 @@
 // The checks of a footprint, in their order.
-ghost use Rattle.std.specs.Prelude.{◌≡◌, true, ℕ, ◌+◌, ◌*◌, ◌-◌, ◌<◌, [], ◌∷◌, length};
+ghost use Rattle.std.specs.Prelude.{◌≡◌, true, ℕ, ◌-◌, ◌<◌, [], ◌∷◌};
 ghost use Rattle.rules.specs.Ring.{ring};
 ghost use Rattle.rules.specs.Good.{Sized, corners_check, shape_checks, footprint_checks};
 ghost use Rattle.refusal.specs.Said.{Finds, Told};

@@ -1,5 +1,5 @@
 // The numbers of runs, pieces and points, but for the corners, by rising offset.
-ghost use Rattle.std.specs.Prelude.{◌≡◌, ◌≤ℤ◌, []};
+ghost use Rattle.std.specs.Prelude.{◌≤ℤ◌};
 ghost use Rattle.rules.specs.Reach.{Reach, Speed, Ticks};
 ghost use Rattle.whole.specs.Decide.{Decides};
 ghost use Rattle.refusal.specs.Said.{Finds};

@@ -28,7 +28,7 @@ use Rattle.line.proofs.Words.{within_is, word_there, word_gone}
 use Rattle.line.proofs.Says.{face_words}
 use Rattle.obj.specs.declared.table.Entry.{Entry}
 use Rattle.obj.specs.File.{nowhere, points, point_checks, points_checks, corners}
-use Rattle.obj.specs.Steps.{blank, entered, Tabled, FitBoth, kept, Drafted, Gather}
+use Rattle.obj.specs.Steps.{unset, entered, Tabled, FitBoth, kept, Drafted, Gather}
 use Rattle.obj.proofs.Points.{point_stored}
 
 -- ---- word i of a face: a corner, whose index names a vertex
@@ -187,24 +187,24 @@ module _ (line : List ℕ) (k : ℕ) (table : List Entry) (list : List ℤ) (at 
         point_is : get_or ps i nowhere ≡ get_or vs v nowhere
         point_is = word_point vs g.all i w (words (drop c.to line)) hand ∙ ap (λ j. get_or vs j nowhere) (ap (λ n. names n (index w)) (sym q) ∙ sym it)
 
-        entry_is : get_or table v blank ≡ entered (get_or ps i nowhere)
+        entry_is : get_or table v unset ≡ entered (get_or ps i nowhere)
         entry_is = let b = corner.1 in let e = it in t v (omega arith) ∙ ap entered (sym point_is)
 
       -- it is refused
-      pub gather_fault : (r : Refusal) → FitBoth (get_or table v blank) i (Err r) → Gather line k table list (Err r)
+      pub gather_fault : (r : Refusal) → FitBoth (get_or table v unset) i (Err r) → Gather line k table list (Err r)
       gather_fault r f vs ns q e t =
           let m : ns ≡ map index g.all = let d = g.face in cc in
           let l = ps vs q t in
           rw m (in_turn_fault (point_checks l) (said r) i (length l) (within vs q t) (g.part vs q t).passes (f (get_or l i nowhere) (entry_is vs q t)))
 
-      kept_part : (x y : ℤ) → FitBoth (get_or table v blank) i (Ok (x, y)) → (vs : List Point) (q : k ≡ length vs) (t : Tabled vs table) → Part (ps vs q t) (i + 1) (kept x y i list)
+      kept_part : (x y : ℤ) → FitBoth (get_or table v unset) i (Ok (x, y)) → (vs : List Point) (q : k ≡ length vs) (t : Tabled vs table) → Part (ps vs q t) (i + 1) (kept x y i list)
       kept_part x y f vs q t =
           let l = ps vs q t in
           let told = f (get_or l i nowhere) (entry_is vs q t) in
           part_more l i list (within vs q t) g.size (g.part vs q t) x y (ap (λ (n : ℤ × ℤ). n.0) told.1) (ap (λ (n : ℤ × ℤ). n.1) told.1) told.0
 
       -- it is kept
-      pub gather_next : (x y : ℤ) → FitBoth (get_or table v blank) i (Ok (x, y)) → Gathering line k table (kept x y i list) c.to (i + 1)
+      pub gather_next : (x y : ℤ) → FitBoth (get_or table v unset) i (Ok (x, y)) → Gathering line k table (kept x y i list) c.to (i + 1)
       gather_next x y f =
           let m = g.number in let o = place.begins.above in let s = place.some n.some in let l = next.1 in
           record {

@@ -12,7 +12,7 @@ use Rattle.line.specs.Number.{Decimal}
 use Rattle.line.specs.Line.{Point}
 use Rattle.obj.specs.declared.table.Entry.{Entry}
 use Rattle.obj.specs.File.{nowhere, flat}
-use Rattle.obj.specs.Steps.{blank, entered, Tabled}
+use Rattle.obj.specs.Steps.{unset, entered, Tabled}
 
 -- two lists have the same first n numbers
 abbrev pub Same : ℕ → List ℤ → List ℤ → Type 0
@@ -57,13 +57,13 @@ abbrev pub Keeps : ℕ → List Entry → List Entry → Type 0
 Keeps v before after = (vs : List Point) → length vs ≤ v → Tabled vs before → Tabled vs after
 
 pub kept_past : (table : List Entry) (v : ℕ) (e : Entry) → Keeps v table (set table v e)
-kept_past table v e vs h t j g = get_or-set_other table v j e blank (λ q. omega arith) ∙ t j g
+kept_past table v e vs h t j g = get_or-set_other table v j e unset (λ q. omega arith) ∙ t j g
 
 -- one more vertex
 pub tabled_more : (vs : List Point) (p : Point) (table : List Entry) → length vs < length table → Tabled vs table → Tabled (vs ++ (p ∷ [])) (set table (length vs) (entered p))
 tabled_more vs p table room t j h =
     let n = length vs in let ws = vs ++ (p ∷ []) in let l = length-append vs (p ∷ []) in
-    below_more (λ j. get_or (set table n (entered p)) j blank ≡ entered (get_or ws j nowhere)) n
-    (λ j g. get_or-set_other table n j (entered p) blank (λ q. omega arith) ∙ (t j g ∙ ap entered (sym (get_or-append vs (p ∷ []) nowhere j g))))
-    (get_or-set_same table n (entered p) blank room ∙ ap entered (sym (get_or-append_seam vs p [] nowhere)))
+    below_more (λ j. get_or (set table n (entered p)) j unset ≡ entered (get_or ws j nowhere)) n
+    (λ j g. get_or-set_other table n j (entered p) unset (λ q. omega arith) ∙ (t j g ∙ ap entered (sym (get_or-append vs (p ∷ []) nowhere j g))))
+    (get_or-set_same table n (entered p) unset room ∙ ap entered (sym (get_or-append_seam vs p [] nowhere)))
     j (omega arith)

@@ -35,15 +35,16 @@ pub record FirstLine (text line : List ℕ) (rest : Option (List ℕ)) : Type 0 
   pub lines : lines text ≡ line ∷ lines_in rest
   pub shorter : length line + taken_by rest ≤ length text
 
--- the vertices stand in the table; past its end there is nothing
-abbrev pub blank : Entry
-blank = record { x = Ok (pos 0); y = Ok (pos 0) }
+-- a place of the table that no vertex has yet
+abbrev pub unset : Entry
+unset = record { x = Ok (pos 0); y = Ok (pos 0) }
 
 abbrev pub entered : Point → Entry
 entered p = record { x = entry p.x; y = entry p.y }
 
+-- the vertices stand in the table
 abbrev pub Tabled : List Point → List Entry → Type 0
-Tabled vs table = (j : ℕ) → j < length vs → get_or table j blank ≡ entered (get_or vs j nowhere)
+Tabled vs table = (j : ℕ) → j < length vs → get_or table j unset ≡ entered (get_or vs j nowhere)
 
 -- the face that was seen, with k vertices so far: its line, and those above it
 pub record Faced (file : List ℕ) (n k : ℕ) (f : Face) (table : List Entry) : Type 0 where

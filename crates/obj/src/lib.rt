@@ -25,8 +25,8 @@ pub fn footprint(file: &[u8], slab: Slab, list: &mut [i32]) -> Result<usize, Ref
     if 65536 < file.len() {
         return Err(Refusal::Length);
     }
-    let blank = Entry { x: Ok(0), y: Ok(0) };
-    let mut table = [blank; 8192];
+    let unset = Entry { x: Ok(0), y: Ok(0) };
+    let mut table = [unset; 8192];
     let seen = scan(file, &mut table)?;
     let Some(face) = seen.face else {
         return Err(Refusal::Face(0));

@@ -1,4 +1,4 @@
-// Lines: where they end.
+// A text cut into its first line and the rest.
 ghost use Rattle.std.specs.Prelude.{◌≡◌, option_copied};
 ghost use Rattle.line.specs.Text.{unreturned};
 ghost use Rattle.obj.specs.Steps.{FirstLine};

@@ -34,7 +34,7 @@ fn corners_at(block: &[u8; SIZE], n: usize) -> [i32; 128]
     corners
 }
 
-// The array is made here, and not by the callers: its clause names each of 512 bytes, and their proofs would carry them.
+// The piece that a block holds. The array is made here: in its callers' hands it would put each of 512 bytes into their proofs, which did not close.
 pub(crate) fn piece_at(block: &[u8]) -> PieceRead
     requires { (length block.now ≡ block_size) × (byte block.now 1 ≤ 64) }
     ensures { PieceAt block.now result }

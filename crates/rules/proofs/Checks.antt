@@ -9,7 +9,7 @@ use mathlib.Core.List.{List, [], ◌∷◌, ◌++◌}
 use Prim.Native.Nat.{ℕ, zero, suc, ◌+◌, ◌-◌, ◌≤◌, ◌<◌}
 use native.Mathlib.Omega.{arith}
 use native.Mathlib.Nat.{add-suc, add-zero}
-use Rattle.whole.specs.Decide.{Decides, Seeks}
+use Rattle.whole.specs.Decide.{Decides}
 use Rattle.whole.proofs.Order.{ℕ_or}
 use Rattle.rules.specs.Refusal.{Refusal, Check, Passes, Fault, demand, First, Sought, each, in_turn}
 
@@ -20,10 +20,6 @@ only i j f g = ⊎_elim (λ (h : i ≤ j). ⊎_elim (λ (k : j ≤ i). (omega ar
 
 pub first_one : (Bad : ℕ → Type 0) (n i j : ℕ) → First Bad n i → First Bad n j → i ≡ j
 first_one Bad n i j f g = only i j (λ h. g.before i h f.bad) (λ h. f.before j h g.bad)
-
--- what a search finds is the first
-pub first_found : {Bad : ℕ → Type 0} {n r : ℕ} → Seeks Bad n r → r < n → First Bad n r
-first_found s h = record { below = h; bad = s.found h; before = λ j l. s.before j l (omega arith) }
 
 -- a search finds one thing
 pub sought_one : (Bad : ℕ → Type 0) (n : ℕ) (r s : Option ℕ) → Sought Bad n r → Sought Bad n s → r ≡ s
@@ -36,10 +32,6 @@ sought_one Bad n (Some i) (Some j) f g = ap Some (first_one Bad n i j f g)
 pub sought_map : (Bad Evil : ℕ → Type 0) (n : ℕ) (r : Option ℕ) → ((j : ℕ) → j < n → Bad j → Evil j) → ((j : ℕ) → j < n → Evil j → Bad j) → Sought Bad n r → Sought Evil n r
 sought_map Bad Evil n None f g s = λ j l e. s j l (g j l e)
 sought_map Bad Evil n (Some i) f g s = record { below = s.below; bad = f i s.below s.bad; before = λ j l e. s.before j l (g j (let b = s.below in omega arith) e) }
-
--- of none, none is found
-pub sought_none : (Bad : ℕ → Type 0) → Sought Bad 0 None
-sought_none Bad = λ j l. absurd (omega arith)
 
 -- number n is looked at too: what was found of those before it stays
 pub sought_more : (Bad : ℕ → Type 0) (n : ℕ) (r : Option ℕ) (t : Bool) → Sought Bad n r → Decides (Bad n) t → Sought Bad (n + 1) (option_or r (then_some t n))

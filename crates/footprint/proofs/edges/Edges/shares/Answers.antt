@@ -3,8 +3,7 @@ use Rattle.std.proofs.Common.{◌≡◌, Bool, not, ◌||◌, ℕ, refl, sym, ap
 use Rattle.rules.specs.Ring.{Pt, Ring, ring, from, to}
 use Rattle.footprint.specs.Point.{pt}
 use Rattle.footprint.specs.Shape.{boxes_apart, aside, edges_share}
-use Rattle.footprint.specs.Table.{extent_of, extents_apart}
-use Rattle.footprint.specs.declared.extent.Extent.{Extent}
+use Rattle.footprint.proofs.Table.{boxed_apart}
 use Rattle.footprint.proofs.edges.Edges.shares.Goals as goal
 use Rattle.footprint.proofs.edges.Edges.shares.Goals.{After-apart}
 
@@ -22,13 +21,8 @@ told : (r : Ring) (i j : ℕ) {a s u : Bool} → a ≡ apart_edges r i j → s �
 told r i j d e f = rw (d, e, f)
 
 -- by the boxes of the table
-box : (r : Ring) (i j : ℕ) (d e : Extent) {a : Bool} → a ≡ extents_apart d e → d ≡ extent_of (from r i) (to r i) → e ≡ extent_of (from r j) (to r j) → a ≡ apart_edges r i j
-box r i j d e q u v = rw (u, v) at q
-
 boxes : (c : After-apart) → c.apart.result ≡ apart_edges (ring c.args.self.corners.list.now) c.args.i c.args.j
-boxes c =
-    let p = c.args.self.tabled in
-    box (ring c.args.self.corners.list.now) c.args.i c.args.j _ _ c.apart.ensures (p.boxed c.args.i _ c.requires.0) (p.boxed c.args.j _ c.requires.1)
+boxes c = c.apart.ensures ∙ boxed_apart (ring c.args.self.corners.list.now) _ _ c.args.i c.args.j _ _ c.args.self.tabled.boxed c.requires.0 c.requires.1
 
 pub returns-then-not-aside : goal.returns-then-not-aside
 returns-then-not-aside c =
