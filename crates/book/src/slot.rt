@@ -1,4 +1,5 @@
-// One slot of a book: what it remembers, and its bytes replaced.
+// One slot of a book: what it remembers, and its bytes replaced. A question's first bytes are a slice of at most CODE bytes: a struct for
+// that one fact would hold nothing else.
 ghost use Rattle.std.specs.Prelude.{◌≡◌, ◌++◌, ◌≤◌, length};
 ghost use Rattle.rules.specs.Reach.{Ticks};
 ghost use Rattle.good.specs.Numbers.{run_of};

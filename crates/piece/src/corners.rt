@@ -1,4 +1,5 @@
-// The corners of a footprint that is good, as a ring.
+// The corners of a footprint that is good, as a ring. `footprint` has a Corners and a Point of its own: there a corner is looked at before it
+// is known to be within reach, here all are, and a point may stand over a denominator.
 ghost use Rattle.piece.specs.Sizes.{Held};
 ghost use Rattle.std.specs.Prelude.{◌≡◌, ◌<◌};
 ghost use Rattle.rules.specs.Ring.{ring, to};
