@@ -11,6 +11,7 @@ use intake::put;
 use piece_block::{PieceRead, slab_numbers};
 use refusal::Refusal;
 
+// block has the same list for a run block, and may: what asks for good ticks cannot cross crates.
 fn run_numbers(run: Run) -> [i32; 7]
     requires { run.ticks ≤ 4096 }
     ensures { result ≡ run_numbers (run_of run) }

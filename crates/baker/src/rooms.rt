@@ -12,6 +12,7 @@ pub extern "C" fn baker_room_piece(image: &[u8], place: usize, numbers: &mut [i3
 {
     match room::piece_at(image, place).found {
         Ok(Some(piece)) => put_piece(piece, numbers),
+        // the end: a piece has 3 corners at least, and C has no Option
         Ok(None) => 0,
         Err(x) => x.code(),
     }

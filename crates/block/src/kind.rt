@@ -9,6 +9,7 @@ use crate::layout::{EDITION, MOST, NAME, PIECE, RUN};
 use refusal::Refusal;
 use seal::{SIZE, check_block, check_unnamed};
 
+// A caller names the kind that it asks for, as specs/Reading does: a closure would say less.
 #[derive(Clone, Copy)]
 pub enum Kind {
     Header,

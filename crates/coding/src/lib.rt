@@ -66,7 +66,7 @@ impl Code for u32 {
     }
 }
 
-// The piece count of a room, or the corner count of a file.
+// The piece count of a room, or the corner count of a file or of a piece; one impl for each type that an answer has.
 impl Code for usize {
     ghost means = { count_means };
 

@@ -1,4 +1,4 @@
--- What the leaf functions ask of a machine's width: each value on the way fits. Assumes nothing.
+-- What products and sides ask of a machine's width: each value on the way fits. Assumes nothing.
 use Rattle.std.specs.Prelude.{ℤ, ◌-ℤ◌, ◌*ℤ◌}
 use Rattle.std.specs.Int.{w64}
 use Rattle.std.proofs.Common.{SFits}

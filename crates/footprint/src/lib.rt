@@ -1,4 +1,4 @@
-// Which footprints are good, and the leaf functions of numbers and rings that other crates need too.
+// Which footprints are good, and leaf functions of numbers and rings, which other crates need too.
 // Definitions: the crates `rules`, `refusal` and `decide`.
 #![tactic(auto)]
 

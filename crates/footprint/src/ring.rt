@@ -34,7 +34,7 @@ fn parted(a: i64, b: i64, c: i64, d: i64) -> bool
     most(c, d) < least(a, b) || most(a, b) < least(c, d)
 }
 
-// Whether the boxes of the edges a b and c d have no point in common.
+// Whether the boxes of the edges a b and c d have no point in common: `extent` has a table of such boxes, in 16 bits, but not yet on the first pass.
 fn boxes_apart(a: Point, b: Point, c: Point, d: Point) -> bool
     ensures { result ≡ boxes_apart (pt a) (pt b) (pt c) (pt d) }
 {

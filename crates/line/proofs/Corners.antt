@@ -1,4 +1,4 @@
--- Corners by their parts: whole numbers as far as they can name a vertex, and the vertex that one names. Assumes nothing.
+-- Corners by their parts: whole numbers as far as 32 bits hold them, and the vertex that one names. Assumes nothing.
 use mathlib.Core.Path.{◌≡◌, refl, sym, subst, ap₂}
 use mathlib.Core.Bool.{Bool, true, false, cond, not, ◌&&◌, ◌||◌}
 use mathlib.Core.List.{List, [], ◌∷◌}

@@ -57,6 +57,7 @@ pub(crate) fn gather(
 {
     // the first word is f, and every other a corner that names a vertex
     let mut at = next_corner(line, 0, above).unwrap().to;
+    // the corner's number, a refusal's first place
     let mut i = 0;
     while let Some(corner) = next_corner(line, at, above) {
         let v = corner.vertex.unwrap();

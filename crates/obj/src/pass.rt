@@ -61,6 +61,7 @@ pub(crate) fn scan<'a>(file: &'a [u8], table: &mut [Entry]) -> Result<Seen<'a>, 
         face: None,
     };
     let mut rest = Some(file);
+    // the line's number, a refusal's place
     let mut i = 0;
     while let Some(text) = rest {
         let (line, more) = first_line(text);

@@ -1,4 +1,4 @@
--- Where a point lies, in the enums' words. Assumes nothing.
+-- Where a point lies, in the enum's words. Assumes nothing.
 use Rattle.std.specs.Prelude.{List, Result, ℤ}
 use Rattle.rules.specs.Ring.{Pt, ring}
 use Rattle.rules.specs.Place.{Where, on, inside, outside, Place, place_checks}

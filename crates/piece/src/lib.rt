@@ -21,7 +21,7 @@ mod spot;
 pub use code::coded;
 pub use spot::Spot;
 
-// Clear, as a verdict is coded: no mark is as large.
+// Clear, as a verdict is coded in an entry and for C, whose formats have no Option: no mark is as large.
 pub const NONE: u32 = 0xFFFF_FFFF;
 
 // Where a point of the grid lies against a footprint.

@@ -80,7 +80,7 @@ impl Span {
         self
     }
 
-    // No moment at all.
+    // No moment at all: a span that ends before 0, as decide/specs/Span has it, so that clipping goes on.
     #[tactic(auto, unfolding(decide::specs::Span::none))]
     fn none(self) -> Span
         ensures { span_of result ≡ none (span_of self) }

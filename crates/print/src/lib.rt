@@ -5,7 +5,8 @@ ghost use Rattle.std.specs.Prelude.{◌≡◌, ◌+◌, ◌≤◌, [], ◌∷◌
 ghost use Rattle.print.specs.Digits.{digits};
 ghost use Rattle.print.specs.Put.{Puts};
 
-// A lent buffer, and the place where the next part is put. What goes past the buffer's end is left out, and the place then lies past it too.
+// A lent buffer, and the place where the next part is put. What goes past the buffer's end is left out, and the place then lies past it too: a fmt::Write
+// would end there and tell no place, so the parts are put by methods of our own.
 #[derive(Drop)]
 pub struct Page<'a> {
     pub out: &'a mut [u8],

@@ -18,8 +18,8 @@ fn found_at(image: &[u8], place: usize) -> Result<Option<PieceRead>, RoomRefusal
     }
 }
 
-// A step goes on behind a piece alone.
-fn step_at(image: &[u8], place: usize) -> Step
+// A step of a reader at that place, for callers that hold the image. It goes on behind a piece alone.
+pub fn piece_at(image: &[u8], place: usize) -> Step
     ensures { StepSays image.now place result }
 {
     let found = found_at(image, place);
@@ -43,7 +43,7 @@ impl<'a> Reader<'a> {
     pub fn step(self) -> Step
         ensures { StepSays self.entry.image.now self.entry.place result }
     {
-        step_at(self.image, self.place)
+        piece_at(self.image, self.place)
     }
 
     // The same image at another place: whoever reads on does so at the step's `next`.
@@ -55,11 +55,4 @@ impl<'a> Reader<'a> {
             place,
         }
     }
-}
-
-// A step of a reader at that place, for callers that hold the image.
-pub fn piece_at(image: &[u8], place: usize) -> Step
-    ensures { StepSays image.now place result }
-{
-    step_at(image, place)
 }
