@@ -24,6 +24,7 @@ pub fn write_header(pieces: u32, block: &mut [u8]) -> Result<(), Refusal>
     if MOST < pieces as usize {
         return Err(Refusal::Kind(5));
     }
+    // the six bytes side by side: a copy of the name would take two steps and say no more
     let front = [NAME[0], NAME[1], NAME[2], NAME[3], EDITION, pieces as u8];
     write_parts(&front, &[], front.len(), block)
 }

@@ -9,7 +9,7 @@ ghost use Rattle.notice.specs.Notice.{run_line, room_line};
 use print::Page;
 use refusal::{Refusal, Row};
 
-// A refused run.
+// A refused run. A line tells how long it is, as its promise is of the buffer alone and knows no page.
 #[tactic(auto, using(print::proofs::Put::then), unfolding(crate::specs::Notice::run_line))]
 pub fn run_line(out: &mut [u8], x: Refusal) -> usize
     ensures puts { Puts out.old 0 (run_line (said x)) out.new result }

@@ -22,7 +22,7 @@ fn code_of(run: Run, image: &[u8], i: usize) -> Result<u32, Refusal>
     coded(verdict_in(run, block_of(image, i)))
 }
 
-// Piece by piece.
+// Piece by piece, in an array of the most pieces that a room has: nothing is on a heap.
 fn codes_of(run: Run, image: &[u8], count: usize) -> Result<[u32; MOST], RoomRefusal>
     requires { Passes (run_checks (run_of run)) × HeadGood image.now count }
     ensures { CodesSay (run_of run) image.now result }
