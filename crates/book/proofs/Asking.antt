@@ -3,9 +3,9 @@ use Rattle.std.specs.Prelude.{Some, None, Result, Ok, Err}
 use mathlib.Core.Path.{◌≡◌, sym, ap, ◌∙◌}
 use mathlib.Core.Logic.{inr}
 use mathlib.Core.List.{List, ◌++◌}
-use Prim.Native.Nat.{ℕ, suc, ◌+◌, ◌*◌, ◌-◌, ◌%◌, ◌≤◌}
-use lib.ListN.{length, take, drop}
-use Rattle.seal.proofs.Blocks.{nth_part, nth_length}
+use Prim.Native.Nat.{ℕ, ◌+◌, ◌*◌, ◌-◌, ◌%◌}
+use lib.ListN.{take, drop}
+use Rattle.seal.proofs.Blocks.{nth_part}
 use Rattle.seal.proofs.Replaced.{mid}
 use Rattle.rules.specs.Reach.{Run, Piece}
 use Rattle.rules.specs.Refusal.{Refusal, Passes, Fault}
@@ -20,7 +20,7 @@ use Rattle.book.specs.declared.Asked.TheVariants.{Remembered, Worked}
 use Rattle.book.specs.Entry.{Slots, slots, key_length, four, entry_of, home, entry, Hit, put}
 use Rattle.book.specs.Ask.{ask_checks, AskSays}
 use Rattle.book.specs.Steps.{first_bytes, Begun, SoundAfter, Recalls, Works}
-use Rattle.book.proofs.Slots.{slot_in, part_put, put_self}
+use Rattle.book.proofs.Slots.{part_put, put_self}
 use Rattle.book.proofs.Kept.{piece_passes}
 use Rattle.book.proofs.Lay.{home_is}
 
@@ -42,12 +42,6 @@ back_same : (book : List ℕ) (i : ℕ) → back book i (lent book i) ≡ book
 back_same book i = part_put book i (lent book i) ∙ ap (put book i) (nth_part book i) ∙ put_self book i
 
 module _ {book front : List ℕ} {r : Run} {k : Piece} {end i : ℕ} (q : Asking book front r k end i) where
-  in_book : 512 * suc i ≤ length book
-  in_book = rw q.at (slot_in book q.sized (sum (λ j. byte front (2 + j)) key_length))
-
-  pub lent_long : length (lent book i) ≡ 512
-  lent_long = ap length (nth_part book i) ∙ nth_length book i in_book
-
   -- the run passes, so the rest is the piece's
   pub piece_fault : (x : told.Refusal) → Fault (piece_checks k) (said x) → AskSays book (back book i (lent book i)) r k (Err x)
   unfolding ask_checks verdict_checks

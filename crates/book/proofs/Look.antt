@@ -1,5 +1,6 @@
 -- The bytes of an entry, one by one, and the code of a sound slot. Assumes nothing.
-use Rattle.std.specs.Prelude.{None}
+use Rattle.std.specs.Prelude.{Bool, true, false, None}
+use Rattle.std.specs.Bool.{then_some}
 use mathlib.Core.Path.{◌≡◌, sym, ap, ◌∙◌}
 use mathlib.Core.Logic.{⊎_elim}
 use mathlib.Core.List.{List, ◌++◌}
@@ -8,10 +9,11 @@ use native.Mathlib.Omega.{arith}
 use lib.ListN.{length, length-append, get_or-append, get_or-eq_default}
 use lib.Seq.{get_or-append-add}
 use Rattle.rules.specs.Reach.{Run}
+use Rattle.whole.specs.Decide.{Decides}
 use Rattle.seal.specs.Seal.{byte, block_of}
 use Rattle.seal.proofs.Bytes.{block_at}
 use Rattle.rules.specs.Verdict.{NONE}
-use Rattle.book.specs.Entry.{code_at, code_end, four}
+use Rattle.book.specs.Entry.{code_at, code_end, four, Possible}
 use Rattle.book.specs.Steps.{CodeBytes, SoundAfter, Recalls}
 
 -- ---- four bytes and their number
@@ -54,5 +56,9 @@ module _ (slot front : List ℕ) (r : Run) (n : length front ≡ code_at) where
     pub beyond : (code ≡ NONE → ⊥) → 256 * r.ticks < code → Recalls slot front r None
     beyond u h c s = let q = its_code c s in ⊎_elim (λ g. u (sym q ∙ g)) (λ g. omega arith) s.possible
 
-    pub other : (slot ≡ block_of (front ++ four code) → ⊥) → Recalls slot front r None
+    other : (slot ≡ block_of (front ++ four code) → ⊥) → Recalls slot front r None
     other u c s = u (s.same ∙ ap (λ (m : ℕ). block_of (front ++ four m)) (its_code c s))
+
+    pub looked : (b : Bool) → code < 4294967296 → Possible r.ticks code → Decides (slot ≡ block_of (front ++ four code)) b → Recalls slot front r (then_some b code)
+    looked true f p h = record { fits = f; possible = p; same = h }
+    looked false f p h = other h

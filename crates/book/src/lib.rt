@@ -5,7 +5,7 @@
 mod front;
 mod slot;
 
-ghost use Rattle.std.specs.Prelude.{◌≡◌, ◌≤◌, length};
+ghost use Rattle.std.specs.Prelude.{◌≡◌, length};
 ghost use Rattle.rules.specs.Refusal.{Passes};
 ghost use Rattle.rules.specs.Good.{run_checks};
 ghost use Rattle.good.specs.Numbers.{run_of, piece_of};
@@ -15,7 +15,7 @@ ghost use Rattle.book.specs.Ask.{AskSays};
 ghost use Rattle.book.specs.Steps.{run_in, piece_in, Works};
 
 use crate::front::{CODE, home_of, lay};
-use crate::slot::{keep, recall};
+use crate::slot::First;
 use good::{Run, Slab, check_piece, check_run};
 use piece::{coded, verdict};
 use refusal::Refusal;
@@ -37,12 +37,12 @@ pub(crate) struct Query<'a> {
 }
 
 // The verdict is worked out, and the piece checked, only once.
-fn work(slot: &mut [u8], first: &[u8], query: Query) -> Result<Asked, Refusal>
-    requires { (length slot.old ≡ block_size) × (length first.now ≤ code_at) }
-    ensures { Works slot.old slot.new (filled code_at first.now) (run_in query.entry) (piece_in query.entry) result }
+fn work(slot: &mut [u8], first: First, query: Query) -> Result<Asked, Refusal>
+    requires { length slot.old ≡ block_size }
+    ensures { Works slot.old slot.new (filled code_at first.entry.bytes.now) (run_in query.entry) (piece_in query.entry) result }
 {
     let code = coded(verdict(query.run, query.slab, query.corners))?;
-    keep(slot, first, code);
+    first.keep(slot, code);
     Ok(Asked::Worked(code))
 }
 
@@ -53,10 +53,11 @@ fn answer(book: &mut [u8], query: Query) -> Result<Asked, Refusal>
 {
     let mut front = [0u8; CODE];
     let end = lay(query, &mut front);
-    let first = &front[..end];
+    let bytes = &front[..end];
+    let first = First { bytes };
     let from = SIZE * home_of(&front, book.len() / SIZE);
     let slot = &mut book[from..from + SIZE];
-    match recall(slot, first, query.run) {
+    match first.recall(slot.as_array().unwrap(), query.run) {
         None => work(slot, first, query),
         Some(code) => {
             check_piece(query.slab, query.corners)?;

@@ -1,5 +1,4 @@
-// One slot of a book: what it remembers, and its bytes replaced. A question's first bytes are a slice of at most CODE bytes: a struct for
-// that one fact would hold nothing else.
+// One slot of a book: what it remembers, and its bytes replaced.
 ghost use Rattle.std.specs.Prelude.{◌≡◌, ◌++◌, ◌≤◌, length};
 ghost use Rattle.rules.specs.Reach.{Ticks};
 ghost use Rattle.good.specs.Numbers.{run_of};
@@ -11,43 +10,46 @@ ghost use Rattle.book.specs.Steps.{CodeBytes, Recalls};
 use crate::front::CODE;
 use good::Run;
 use piece::NONE;
-use seal::{is_parts, write_parts};
+use seal::{SIZE, is_parts, write_parts};
 
-fn code_in(slot: &[u8]) -> u32
-    requires { length slot.now ≡ block_size }
+fn code_in(slot: &[u8; SIZE]) -> u32
     ensures { CodeBytes slot.now result }
 {
     u32::from_le_bytes([slot[CODE], slot[CODE + 1], slot[CODE + 2], slot[CODE + 3]])
 }
 
-// The slot becomes the entry of these first bytes and a code; only what stands in it is summed.
-pub(crate) fn keep(slot: &mut [u8], first: &[u8], code: u32)
-    requires { (length slot.old ≡ block_size) × (length first.now ≤ code_at) }
-    ensures { slot.new ≡ block_of (filled code_at first.now ++ four code) }
-{
-    write_parts(first, &code.to_le_bytes(), CODE, slot).unwrap();
+// The first bytes of an entry: zeros follow them up to its code.
+#[derive(Clone, Copy)]
+pub(crate) struct First<'a> {
+    pub(crate) bytes: &'a [u8],
+    ghost short: { length bytes.now ≤ code_at },
 }
 
-// Whether the slot is that entry, byte for byte.
-fn is_entry(slot: &[u8], first: &[u8], code: u32) -> bool
-    requires { length first.now ≤ code_at }
-    ensures { Decides (slot.now ≡ block_of (filled code_at first.now ++ four code)) result }
-{
-    is_parts(first, &code.to_le_bytes(), CODE, slot)
-}
-
-// What a slot remembers of a question. An entry has NONE for a clear verdict: its four bytes are a format that may not change.
-pub(crate) fn recall(slot: &[u8], first: &[u8], run: Run) -> Option<u32>
-    requires { (length slot.now ≡ block_size) × ((length first.now ≤ code_at) × Ticks run.ticks) }
-    ensures { Recalls slot.now (filled code_at first.now) (run_of run) result }
-{
-    let code = code_in(slot);
-    if code != NONE && 256 * run.ticks < code {
-        return None;
+impl<'a> First<'a> {
+    // The slot becomes the entry of these first bytes and a code; only what stands in it is summed.
+    pub(crate) fn keep(self, slot: &mut [u8], code: u32)
+        requires { length slot.old ≡ block_size }
+        ensures { slot.new ≡ block_of (filled code_at self.entry.bytes.now ++ four code) }
+    {
+        write_parts(self.bytes, &code.to_le_bytes(), CODE, slot).unwrap();
     }
-    if is_entry(slot, first, code) {
-        Some(code)
-    } else {
-        None
+
+    // Whether the slot is that entry, byte for byte.
+    fn is_entry(self, slot: &[u8; SIZE], code: u32) -> bool
+        ensures { Decides (slot.now ≡ block_of (filled code_at self.entry.bytes.now ++ four code)) result }
+    {
+        is_parts(self.bytes, &code.to_le_bytes(), CODE, slot)
+    }
+
+    // What a slot remembers of a question. An entry has NONE for a clear verdict: its four bytes are a format that may not change.
+    pub(crate) fn recall(self, slot: &[u8; SIZE], run: Run) -> Option<u32>
+        requires { Ticks run.ticks }
+        ensures { Recalls slot.now (filled code_at self.entry.bytes.now) (run_of run) result }
+    {
+        let code = code_in(slot);
+        if code != NONE && 256 * run.ticks < code {
+            return None;
+        }
+        self.is_entry(slot, code).then_some(code)
     }
 }
