@@ -26,7 +26,7 @@ pub(crate) struct First<'a> {
 }
 
 impl<'a> First<'a> {
-    // The slot becomes the entry of these first bytes and a code; only what stands in it is summed.
+    // The slot becomes the entry of these first bytes and a code; only what stands in it is summed. A slice, since what is written through an array of it is not found in it.
     pub(crate) fn keep(self, slot: &mut [u8], code: u32)
         requires { length slot.old ≡ block_size }
         ensures { slot.new ≡ block_of (filled code_at self.entry.bytes.now ++ four code) }

@@ -14,7 +14,7 @@ use piece::coded;
 use piece_block::verdict_in;
 use refusal::Refusal;
 
-// The verdict on one piece, coded.
+// The verdict on one piece, coded. A type of good runs would stand beside Run, which calls take whatever it is, and say no more than the clause.
 fn code_of(run: Run, image: &[u8], i: usize) -> Result<u32, Refusal>
     requires { Passes (run_checks (run_of run)) × Has image.now i }
     ensures { CodeFound (run_of run) image.now i result }

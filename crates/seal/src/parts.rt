@@ -45,6 +45,7 @@ impl<'a> Parts<'a> {
         }
     }
 
+    // Into a slice: of an array that is made of one, what is written is not found in the slice.
     fn lay(self, block: &mut [u8])
         requires { length block.old ≡ block_size }
         ensures { Alike block.new (filled self.entry.at self.entry.first.now ++ self.entry.last.now) }
