@@ -1,5 +1,6 @@
 -- A verdict on the piece in a block: which answers the run, the bytes and the piece's numbers give. Assumes nothing.
 use Rattle.std.specs.Prelude.{Ok, Err, Some, None}
+use Rattle.std.specs.Result.{result_and}
 use mathlib.Core.Path.{◌≡◌, refl}
 use mathlib.Core.Logic.{inl, inr}
 use mathlib.Core.List.{List, ◌∷◌, ◌++◌}
@@ -12,7 +13,7 @@ use Rattle.rules.specs.Verdict as rules
 use Rattle.rules.specs.Verdict.{Answer, clear, blocked, verdict_checks}
 use Rattle.rules.proofs.Checks.{definite_demand, passes_left, passes_right, fault_left, fault_right, fault_past, fault_then}
 use Rattle.rules.proofs.Good.{definite_run}
-use Rattle.refusal.specs.Said.{said}
+use Rattle.refusal.specs.Said.{said, Checked, Finds}
 use Rattle.refusal.specs.declared.Refusal as enum
 use Rattle.refusal.specs.declared.Refusal.TheVariants.{Length}
 use Rattle.piece.specs.Tells.{Verdict}
@@ -40,6 +41,11 @@ module _ (r : Run) (l : List ℕ) where
     pub bytes_refused : (x : enum.Refusal) → Passes (run_checks r) → Fault (block_checks l ++ piece_bytes l) (said x) → VerdictInSays r l (Err x)
     unfolding verdict_in_checks first
     bytes_refused x good f = fault_right first (piece_block_checks l) (said x) (long, good) (bytes_fault l (said x) f)
+
+    -- a refusal of the bytes waits for the run
+    pub late_refused : (x : enum.Refusal) (q : Checked) → Finds (run_checks r) q → Fault (block_checks l ++ piece_bytes l) (said x) → VerdictInSays r l (result_and q (Err x))
+    late_refused x (Ok _) good f = bytes_refused x good f
+    late_refused x (Err y) f _ = run_refused y f
 
     -- where the run is good, a refusal is the block's
     pub block_refused : (x : enum.Refusal) → Passes (run_checks r) → VerdictInSays r l (Err x) → Fault (piece_block_checks l) (said x)

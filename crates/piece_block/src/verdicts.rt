@@ -16,9 +16,11 @@ pub fn verdict_in(run: Run, block: &[u8]) -> Result<Option<u32>, Refusal>
     if block.len() != SIZE {
         return Err(Refusal::Length);
     }
-    let checked = check_kind(block, Kind::Piece);
-    check_run(run)?;
-    checked?;
-    let piece = piece_at(block);
-    verdict(run, piece.slab, &piece.corners[..2 * piece.count])
+    match check_kind(block, Kind::Piece) {
+        Ok(()) => {
+            let piece = piece_at(block);
+            verdict(run, piece.slab, &piece.corners[..2 * piece.count])
+        }
+        Err(x) => check_run(run).and(Err(x)),
+    }
 }
