@@ -5,7 +5,7 @@ ghost use Rattle.std.specs.Prelude.{◌≡◌};
 ghost use Rattle.coding.specs.Coded.{Meaning, refusal_code, code_of, nothing_means, count_means, spot_means, mark_means, entry_means, refusal_means, room_refusal_means, result_means};
 
 use book::Asked;
-use piece::{NONE, Spot};
+use piece::{Spot, coded};
 use refusal::{Refusal, Row};
 use room::RoomRefusal;
 
@@ -75,12 +75,12 @@ impl Code for usize {
     }
 }
 
-// A verdict: C has no Option, and the header says NONE for clear.
+// A verdict: C has no Option, and is told what an entry and a lent list have for it.
 impl Code for Option<u32> {
     ghost means = { mark_means };
 
     fn code(self) -> u64 {
-        u64::from(self.unwrap_or(NONE))
+        coded(Ok(self)).code()
     }
 }
 
