@@ -4,9 +4,10 @@ use mathlib.Core.Bool.{Bool, true, false, cond, not, ◌&&◌, ◌||◌}
 use mathlib.Core.List.{List, [], ◌∷◌}
 use Prim.Native.Nat.{ℕ, zero, suc, ◌-◌, ◌≤◌, ◌<◌}
 use native.Mathlib.Omega.{arith}
-use borrow.Author.Tests.{eqb-true, lt-ltb, le-ltb, ne_eqb}
+use borrow.Author.Tests.{eqb-true, ltb-true, lt-ltb, le-ltb, ne_eqb}
 use lib.Dec.{ltb, eqb, lit<}
-use Rattle.whole.proofs.Flag.{and_yes}
+use lib.IntN.{ℤ, pos, negsuc}
+use Rattle.whole.proofs.Flag.{and_yes, by_flag}
 use Rattle.grid.specs.Number.{signed}
 use Rattle.line.specs.Text.{parts, slash}
 use Rattle.line.specs.Number.{all_digits, empty, digits, number, minus, past, is_whole, whole, is_after, is_corner, index}
@@ -36,6 +37,12 @@ module _ (k : ℕ) where
   names_one s zero h g = absurd (omega arith)
   names_one true (suc i) h g = rw (lt-ltb i k (omega arith))
   names_one false (suc i) h g = rw (lt-ltb i k (omega arith)) (omega arith)
+
+  pub names_most : (z : ℤ) → names k z ≤ k
+  unfolding names
+  names_most (pos zero) = omega arith
+  names_most (pos (suc i)) = by_flag (λ v. v ≤ k) (ltb i k) i k (λ e. omega (arith, ltb-true i k e)) (λ e. omega arith)
+  names_most (negsuc i) = by_flag (λ v. v ≤ k) (ltb i k) (k - suc i) k (λ e. omega arith) (λ e. omega arith)
 
   -- and so what is told of it
   pub named_none : (s : Bool) (m : ℕ) → (0 < m → k < m) → named k (signed s m) ≡ Err NoVertex

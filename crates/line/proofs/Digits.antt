@@ -6,7 +6,7 @@ use Prim.Native.Nat.{ℕ, ◌+◌, ◌*◌, ◌-◌, ◌^◌, ◌≤◌, ◌<◌
 use native.Mathlib.Omega.{arith}
 use native.Mathlib.Numerals.{add-one}
 use native.Mathlib.Nat.{pow-suc, pow-le-pow_right, mul-le-mul_right}
-use borrow.Author.Tests.{le-leb, leb-true, ne_eqb}
+use borrow.Author.Tests.{le-leb, lt-leb, leb-true, ne_eqb}
 use lib.Dec.{leb, eqb, lit<}
 use lib.ListN.{length, get_or, drop}
 use lib.Seq.{drop-cons}
@@ -17,8 +17,20 @@ use Rattle.line.specs.Steps.{saturated, number_or, few_or}
 use Rattle.std.proofs.Common.{Option, Some, None}
 
 -- ---- a byte and whether it is a digit
+pub is_digit : (b : ℕ) → 48 ≤ b → b ≤ 57 → digit b ≡ true
+is_digit b h g = rw (le-leb 48 b h, le-leb b 57 g)
+
+pub below_digits : (b : ℕ) → b < 48 → digit b ≡ false
+below_digits b h = rw (lt-leb 48 b h)
+
+pub above_digits : (b : ℕ) → 57 < b → digit b ≡ false
+above_digits b h = rw (lt-leb b 57 h) (and-false (leb 48 b))
+
 digit_range : (b : ℕ) → digit b ≡ true → (48 ≤ b) × (b ≤ 57)
 digit_range b e = let y = and_yes (leb 48 b) (leb b 57) e in (leb-true 48 b y.0, leb-true b 57 y.1)
+
+pub digit_small : (b : ℕ) → digit b ≡ true → b - 48 ≤ 9
+digit_small b e = omega (arith, digit_range b e)
 
 -- ---- digits from a place on
 module _ (w : List ℕ) (i : ℕ) (h : i < length w) where
@@ -43,6 +55,9 @@ digits_unparted c h (b ∷ l) e =
     rw (ne_eqb b c (λ f. omega (arith, digit_range b y.0)), digits_unparted c h l y.1)
 
 -- ---- powers of ten
+pub pow_more : (i : ℕ) → 10 * 10 ^ i ≡ 10 ^ (i + 1)
+pow_more i = rw (add-one, pow-suc 10 i) (omega arith)
+
 pub pow_most : (i k : ℕ) → i ≤ k → 10 ^ i ≤ 10 ^ k
 pow_most i k h = pow-le-pow_right (lit< tt) h
 
@@ -102,6 +117,9 @@ pub digits_no : (w : List ℕ) → all_digits w ≡ false → digits w ≡ false
 digits_no w e = rw e (and-false (not (empty w)))
 
 -- ---- one to nine
+pub few_long : (w : List ℕ) → 9 < length w → few w ≡ false
+few_long w h = rw (lt-leb (length w) 9 h) (and-false (digits w))
+
 pub few_digits : (w : List ℕ) → few w ≡ true → (all_digits w ≡ true) × (length w ≤ 9)
 few_digits w e = let y = and_yes (digits w) (leb (length w) 9) e in ((and_yes (not (empty w)) (all_digits w) y.0).1, leb-true (length w) 9 y.1)
 

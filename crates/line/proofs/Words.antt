@@ -12,10 +12,9 @@ use lib.ListN.{length, get_or, take, drop, drop_of_length-le, length-drop}
 use lib.Seq.{drop-cons, drop-drop, length-take-le}
 use lib.Pointwise.{pointwise}
 use Rattle.std.proofs.Common.{nat_eq}
-use Rattle.std.specs.List.{list_any}
 use Rattle.whole.proofs.Flag.{decided, and_yes}
 use Rattle.line.specs.Text.{blank, joined, parts, filled, words}
-use Rattle.line.specs.Line.{same, among}
+use Rattle.line.specs.Line.{same, among, passed_words}
 use Rattle.line.specs.Calls.{part, Until, Word, words_from, within}
 use Rattle.line.specs.Steps.{Taken}
 use Rattle.line.proofs.Told.{no}
@@ -194,10 +193,76 @@ same_is_pointwise [] (c ∷ v) = refl
 same_is_pointwise (b ∷ w) [] = refl
 same_is_pointwise (b ∷ w) (c ∷ v) = ap₂ (λ (x y : Bool). x && y) (eqb_turned b c) (same_is_pointwise w v)
 
-pub among_is : (w : List ℕ) (vs : List (List ℕ)) → among w vs ≡ list_any (λ v. pointwise nat_eq v w) vs
-unfolding among
-among_is w [] = refl
-among_is w (v ∷ vs) = ap₂ (λ (x y : Bool). x || y) (same_is_pointwise w v) (among_is w vs)
+-- words of other lengths are others
+other_length : (w v : List ℕ) → (length w ≡ length v → ⊥) → same w v ≡ false
+unfolding same
+other_length [] [] h = absurd (h refl)
+other_length [] (c ∷ v) h = refl
+other_length (b ∷ w) [] h = refl
+other_length (b ∷ w) (c ∷ v) h = rw (other_length w v (λ e. h (ap suc e))) (and-false (eqb b c))
+
+-- a word that is passed over has one, two or six bytes
+letters : (a b c : Bool) → (a || b) || c ≡ (a && true) || ((b && true) || ((c && true) || false))
+letters true b c = refl
+letters false true c = refl
+letters false false true = refl
+letters false false false = refl
+
+pairs : (v a b : Bool) → v && (a || b) ≡ (v && (a && true)) || ((v && (b && true)) || false)
+pairs true true b = refl
+pairs true false true = refl
+pairs true false false = refl
+pairs false a b = refl
+
+last : (a b : Bool) → a || b ≡ a || (b || false)
+last true b = refl
+last false true = refl
+last false false = refl
+
+pub passed_one : (w : List ℕ) → length w ≡ 1 → (nat_eq (get_or w 0 0) 111 || nat_eq (get_or w 0 0) 103) || nat_eq (get_or w 0 0) 115 ≡ among w passed_words
+unfolding among same
+passed_one [] l = absurd (omega arith)
+passed_one (b ∷ []) l = rw (and-false (eqb b 118), and-false (eqb b 117), and-false (eqb b 109)) (letters (eqb b 111) (eqb b 103) (eqb b 115))
+passed_one (b ∷ (c ∷ w)) l = absurd (omega arith)
+
+pub passed_two : (w : List ℕ) → length w ≡ 2 → nat_eq (get_or w 0 0) 118 && (nat_eq (get_or w 1 0) 110 || nat_eq (get_or w 1 0) 116) ≡ among w passed_words
+unfolding among same
+passed_two [] l = absurd (omega arith)
+passed_two (b ∷ []) l = absurd (omega arith)
+passed_two (b ∷ (c ∷ [])) l =
+    rw (and-false (eqb b 111), and-false (eqb b 103), and-false (eqb b 115), and-false (eqb c 115), and-false (eqb c 116), and-false (eqb b 117), and-false (eqb b 109))
+    (pairs (eqb b 118) (eqb c 110) (eqb c 116))
+passed_two (b ∷ (c ∷ (d ∷ w))) l = absurd (omega arith)
+
+module _ (w : List ℕ) where
+  abbrev is : List ℕ → Bool
+  is v = pointwise nat_eq v w
+
+  pub passed_six : length w ≡ 6 → is (117 ∷ 115 ∷ 101 ∷ 109 ∷ 116 ∷ 108 ∷ []) || is (109 ∷ 116 ∷ 108 ∷ 108 ∷ 105 ∷ 98 ∷ []) ≡ among w passed_words
+  unfolding among
+  passed_six l =
+      rw (
+        other_length w (111 ∷ []) (λ e. omega arith),
+        other_length w (103 ∷ []) (λ e. omega arith),
+        other_length w (115 ∷ []) (λ e. omega arith),
+        other_length w (118 ∷ 110 ∷ []) (λ e. omega arith),
+        other_length w (118 ∷ 116 ∷ []) (λ e. omega arith),
+        same_is_pointwise w (117 ∷ 115 ∷ 101 ∷ 109 ∷ 116 ∷ 108 ∷ []),
+        same_is_pointwise w (109 ∷ 116 ∷ 108 ∷ 108 ∷ 105 ∷ 98 ∷ []),
+      ) (last _ _)
+
+  pub passed_none : (length w ≡ 1 → ⊥) → (length w ≡ 2 → ⊥) → (length w ≡ 6 → ⊥) → false ≡ among w passed_words
+  unfolding among
+  passed_none one two six =
+      rw (
+        other_length w (111 ∷ []) one,
+        other_length w (103 ∷ []) one,
+        other_length w (115 ∷ []) one,
+        other_length w (118 ∷ 110 ∷ []) two,
+        other_length w (118 ∷ 116 ∷ []) two,
+        other_length w (117 ∷ 115 ∷ 101 ∷ 109 ∷ 116 ∷ 108 ∷ []) six,
+        other_length w (109 ∷ 116 ∷ 108 ∷ 108 ∷ 105 ∷ 98 ∷ []) six,
+      ) refl
 
 -- ---- a word of one byte
 pub one_byte : (w : List ℕ) (b : ℕ) → length w ≡ 1 → get_or w 0 0 ≡ b → w ≡ b ∷ []

@@ -5,7 +5,7 @@
 ghost use Rattle.std.specs.Prelude.{◌≡◌};
 ghost use Rattle.line.specs.Text.{words};
 ghost use Rattle.line.specs.Line.{among, passed_words, vertex_line, face_line, line_of};
-ghost use Rattle.line.specs.Calls.{said_of, Next};
+ghost use Rattle.line.specs.Calls.{said_of, within, Next};
 ghost use Rattle.line.specs.Steps.{vertex_in};
 
 use crate::decimal::decimal;
@@ -54,11 +54,18 @@ pub struct Corner {
     pub vertex: Result<usize, Unnamed>,
 }
 
+// A place of a line; one past its end is its end.
+fn within(line: &[u8], at: usize) -> usize
+    ensures { result ≡ within line.now at }
+{
+    at.min(line.len())
+}
+
 // The next word from here on, if there is one.
 pub fn next_corner(line: &[u8], at: usize, above: u16) -> Option<Corner>
     ensures { Next line.now at above result }
 {
-    let at = at.min(line.len());
+    let at = within(line, at);
     let (w, rest) = word(&line[at..])?;
     let to = line.len() - rest.len();
     let from = to - w.len();
@@ -71,14 +78,15 @@ fn read_vertex(line: &[u8]) -> Option<Vertex>
     ensures { result ≡ vertex_in (vertex_line (words line.now)) }
 {
     let (x, rest) = word(line)?;
+    let x = decimal(x, false)?;
     let (height, rest) = word(rest)?;
+    let _ = decimal(height, false)?;
+    // minus their z is our y
     let (z, rest) = word(rest)?;
-    if word(rest).is_some() || decimal(height, false).is_none() {
+    let y = decimal(z, true)?;
+    if word(rest).is_some() {
         return None;
     }
-    let x = decimal(x, false)?;
-    // minus their z is our y
-    let y = decimal(z, true)?;
     Some(Vertex { x, y })
 }
 
@@ -99,15 +107,19 @@ fn read_face(line: &[u8], above: u16) -> Said
     Said::Face(all)
 }
 
-// What a line that is passed over begins with.
-const PASSED: [&[u8]; 7] = [b"o", b"g", b"s", b"vn", b"vt", b"usemtl", b"mtllib"];
-
-// Whether a line that begins with this word is passed over.
-#[tactic(auto, using(crate::proofs::Words::among_is))]
+// Whether a line that begins with this word is passed over, by its length first: to search a list of words takes twice as long for the whole file.
 fn is_passed(w: &[u8]) -> bool
     ensures { result ≡ among w.now passed_words }
 {
-    PASSED.contains(&w)
+    match w.len() {
+        1 => (w[0] == b'o') | (w[0] == b'g') | (w[0] == b's'),
+        2 => (w[0] == b'v') & ((w[1] == b'n') | (w[1] == b't')),
+        6 => {
+            let w: &[u8; 6] = w.as_array().unwrap();
+            (b"usemtl" == w) | (b"mtllib" == w)
+        }
+        _ => false,
+    }
 }
 
 // A line, with so many vertices above it.
