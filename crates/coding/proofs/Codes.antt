@@ -3,6 +3,11 @@ use mathlib.Core.Path.{◌≡◌, sym, ap, ◌∙◌}
 use Prim.Native.Nat.{ℕ}
 use Rattle.coding.specs.Coded.{Coded, Meaning, Out, out, coded}
 
+-- what is made in one case is made of the answer
+pub by : {A B : Type 0} (f : A → B) {r : B} {x k : A} → x ≡ k → r ≡ f k → r ≡ f x
+by f e h = h ∙ sym (ap f e)
+
+-- ---- one answer, one code
 pub coded_one : {A B : Type 0} (S : A → Type 0) (f : A → B) (c d : B) → ((x y : A) → S x → S y → x ≡ y) → Coded S f c → Coded S f d → c ≡ d
 coded_one S f c d same h k = h.code ∙ ap f (same h.answer k.answer h.says k.says) ∙ sym k.code
 

@@ -14,6 +14,10 @@ use Rattle.rules.specs.Reach.{Between, Reach, Speed}
 use Rattle.pair.specs.Pair.{Half, word, Spelt, words, Halves, NumbersOf}
 
 -- ---- one number
+pub word_below : (z : ℤ) → Half z → word z < 65536
+word_below (pos n) h = let l = leb→le n 32767 h.below.le in omega arith
+word_below (negsuc n) h = omega arith
+
 -- two numbers that two bytes hold, with the same bytes, are the same
 pub word_one : (y z : ℤ) → Half y → Half z → word y ≡ word z → y ≡ z
 word_one (pos m) (pos n) h k e = ap pos e

@@ -74,6 +74,18 @@ module _ (N D : ℕ) (s : Span) (h : Tame N D s) where
       (λ e. tame_lower a (neg_ℤ b) (turn_lt b (lt_true _ _ e)) k.base (rw (abs_neg b) k.slope))
       (λ e. by_flag (Tame N D) (lt_z a (pos 0)) _ _ (λ e. tame_none i j) (λ e. h)))
 
+  pub wider : (N' D' : ℕ) → N ≤ N' → D ≤ D' → Tame N' D' s
+  wider N' D' i j = record {
+    begin = h.begin;
+    end = h.end;
+    low = h.low;
+    high = h.high;
+    low_n = omega (arith, h.low_n);
+    low_d = omega (arith, h.low_d);
+    high_n = omega (arith, h.high_n);
+    high_d = omega (arith, h.high_d);
+  }
+
 -- what holds of every span of the code
 abbrev pub Small : Span → Type 0
 Small = Tame 8589934592 67108864

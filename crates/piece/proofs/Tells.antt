@@ -16,7 +16,7 @@ use Rattle.rules.proofs.Reach.{run_known}
 use Rattle.rules.proofs.Verdict.{one_verdict, mark_small, mark_answers}
 use Rattle.refusal.specs.declared.Refusal.{Refusal}
 use Rattle.refusal.specs.Said.{said, Told}
-use Rattle.refusal.proofs.Unique.{told_one}
+use Rattle.refusal.proofs.Unique.{told_same}
 use Rattle.piece.specs.Tells.{Verdict, Coded, answer_of, earlier, Marks, Tells, coded_of}
 
 -- an answer as the code has it, and back
@@ -32,7 +32,7 @@ same (Some m) = refl
 -- one verdict is told of what checks pass, where P says one answer
 pub verdict_one : (cs : List Check) → AllDefinite cs → (P : Answer → Type 0) → ((a b : Answer) → P a → P b → a ≡ b)
     → (v w : Verdict) → Told cs (λ a. P (answer_of a)) v → Told cs (λ a. P (answer_of a)) w → v ≡ w
-verdict_one cs h P one v w = told_one cs h (λ a. P (answer_of a)) (λ a b p q. sym (same a) ∙ ap option_of (one _ _ p q) ∙ same b) v w
+verdict_one cs h P one v w = told_same cs h (λ a. P (answer_of a)) (λ a b p q. sym (same a) ∙ ap option_of (one _ _ p q) ∙ same b) v w
 
 pub one_told : (r : Run) (k : Piece) (v w : Verdict) → Tells r k v → Tells r k w → v ≡ w
 one_told r k = verdict_one (verdict_checks r k) (definite_verdict r k) (rules.Verdict r k) (one_verdict r k)

@@ -6,7 +6,7 @@ use Rattle.rules.specs.Ring.{Pt, ring}
 use Rattle.rules.specs.Place.{Where, on, inside, outside, Place, place_checks}
 use Rattle.rules.proofs.Good.{definite_place}
 use Rattle.decide.proofs.Parity.{one_place}
-use Rattle.refusal.proofs.Unique.{told_one}
+use Rattle.refusal.proofs.Unique.{told_same}
 use Rattle.footprint.proofs.Unique.{equal_one}
 use Rattle.piece.specs.declared.spot.Spot.{Spot}
 use Rattle.piece.specs.declared.spot.Spot.TheVariants.{On, Inside, Outside}
@@ -27,7 +27,7 @@ same Outside = refl
 
 pub place_one : (p : Pt) (l : List ℤ) (r s : Placed) → Lies p l r → Lies p l s → r ≡ s
 place_one p l =
-    told_one (place_checks p l) (definite_place p l) (λ s. Place (ring l) p (where_of s))
+    told_same (place_checks p l) (definite_place p l) (λ s. Place (ring l) p (where_of s))
     (λ s t h k. sym (same s) ∙ ap spot_of (one_place (ring l) p _ _ h k) ∙ same t)
 
 pub coded_one : (v : Verdict) (r s : Coded) → r ≡ coded_of v → s ≡ coded_of v → r ≡ s

@@ -47,11 +47,16 @@ pub refused_one : (cs : List Test) → AllDefinite cs → (x y : Refusal) → Fa
 refused_one cs s x y f g = said_one x y (one_fault cs s (said x) (said y) f g)
 
 -- one answer is told, where P says one
-pub told_one : {A : Type 0} (cs : List Test) → AllDefinite cs → (P : A → Type 0) → ((a b : A) → P a → P b → a ≡ b) → (r s : Result A Refusal) → Told cs P r → Told cs P s → r ≡ s
-told_one cs h P one (Ok a) (Ok b) f g = ap Ok (one a b f.1 g.1)
-told_one cs h P one (Ok a) (Err y) f g = absurd (never_both cs h (said y) f.0 g)
-told_one cs h P one (Err x) (Ok b) f g = absurd (never_both cs h (said x) g.0 f)
-told_one cs h P one (Err x) (Err y) f g = ap Err (refused_one cs h x y f g)
+pub told_same : {A : Type 0} (cs : List Test) → AllDefinite cs → (P : A → Type 0) → ((a b : A) → P a → P b → a ≡ b) → (r s : Result A Refusal) → Told cs P r → Told cs P s → r ≡ s
+told_same cs h P one (Ok a) (Ok b) f g = ap Ok (one a b f.1 g.1)
+told_same cs h P one (Ok a) (Err y) f g = absurd (never_both cs h (said y) f.0 g)
+told_same cs h P one (Err x) (Ok b) f g = absurd (never_both cs h (said x) g.0 f)
+told_same cs h P one (Err x) (Err y) f g = ap Err (refused_one cs h x y f g)
+
+-- a type that has the answers and the refusals as its cases
+module _ {A E : Type 0} (has : E → Result A Refusal) (make : Result A Refusal → E) (made : (e : E) → make (has e) ≡ e) where
+  pub told_one : (cs : List Test) → AllDefinite cs → (P : A → Type 0) → ((a b : A) → P a → P b → a ≡ b) → (r s : E) → Told cs P (has r) → Told cs P (has s) → r ≡ s
+  told_one cs h P one r s f g = sym (made r) ∙ ap make (told_same cs h P one (has r) (has s) f g) ∙ made s
 
 -- what is found is told, with nothing more to say
 told_of : (cs : List Test) (r : Result (Unit {0}) Refusal) → Finds cs r → Told cs (λ _. Unit {0}) r
@@ -59,7 +64,7 @@ told_of cs (Ok _) f = (f, tt)
 told_of cs (Err x) f = f
 
 pub finds_one : (cs : List Test) → AllDefinite cs → (r s : Result (Unit {0}) Refusal) → Finds cs r → Finds cs s → r ≡ s
-finds_one cs h r s f g = told_one cs h (λ _. Unit {0}) (λ a b _ _. refl) r s (told_of cs r f) (told_of cs s g)
+finds_one cs h r s f g = told_same cs h (λ _. Unit {0}) (λ a b _ _. refl) r s (told_of cs r f) (told_of cs s g)
 
 -- what was written is one too
 pub writes_one : {A : Type 0} (cs : List Test) → AllDefinite cs → (made before a b : A) (r s : Result (Unit {0}) Refusal) → Writes cs made before a r → Writes cs made before b s → (r ≡ s) × (a ≡ b)

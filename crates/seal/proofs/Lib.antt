@@ -2,6 +2,7 @@ pub mod Blocks
 pub mod Bytes
 pub mod Clean
 pub mod Cleared
+pub mod Flags
 pub mod Fletcher
 pub mod OneFault
 pub mod Pairs

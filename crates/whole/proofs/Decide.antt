@@ -1,7 +1,8 @@
 -- Tests and searches: what a flag says, and a search's step. Assumes nothing.
 use mathlib.Core.Path.{◌≡◌, refl, sym, subst}
 use mathlib.Core.Bool.{Bool, true, false, not}
-use Prim.Native.Nat.{ℕ, ◌+◌, ◌^◌, ◌<◌}
+use Prim.Native.Nat.{ℕ, zero, suc, ◌+◌, ◌^◌, ◌<◌}
+use native.Mathlib.Omega.{arith}
 use lib.IntN.{ℤ}
 use lib.Signed.{mag}
 use mir.Syntax.{Width}
@@ -54,6 +55,13 @@ none_yet Bad = below_none (λ j. Bad j → ⊥)
 
 pub one_more : (Bad : ℕ → Type 0) (k : ℕ) → Below Bad k → (Bad k → ⊥) → Below Bad (k + 1)
 one_more Bad = below_more (λ j. Bad j → ⊥)
+
+-- ---- what holds of 0, 1 and 2 holds below 3
+pub of_three : (P : ℕ → Type 0) → P 0 → P 1 → P 2 → (j : ℕ) → j < 3 → P j
+of_three P a b c zero l = a
+of_three P a b c (suc zero) l = b
+of_three P a b c (suc (suc zero)) l = c
+of_three P a b c (suc (suc (suc j))) l = absurd (omega arith)
 
 -- ---- a test of signed numbers, as its caller reads them back
 pub taken : (P : ℤ → Type 0) (w : Width) (z : ℤ) (t : Bool) → mag z < 2 ^ hbits w → Decides (P (to_z w (of_z w z))) t → not t ≡ false → P z

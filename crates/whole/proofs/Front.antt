@@ -40,3 +40,6 @@ module _ {A : Type 0} (z : A) (front before : List A) where
             rw e at (get_or-append-add front (drop (length front) before) (i - length front) z ∙ get_or-drop (length front) before (i - length front) z);
       };
     }
+
+    pub front_is : (after : List A) → Front z front (length front) before after → after ≡ fronted front before
+    front_is after f = stays_one z (length front) before after (fronted front before) f.stays front_made.stays λ i k. f.first i k ∙ sym (front_made.first i k)

@@ -3,7 +3,7 @@ use Rattle.std.proofs.Common.{◌≡◌, Bool, not, ◌||◌, ℕ, refl, sym, ap
 use Rattle.rules.specs.Ring.{Pt, Ring, ring, from, to}
 use Rattle.footprint.specs.Point.{pt}
 use Rattle.footprint.specs.Shape.{boxes_apart, aside, edges_share}
-use Rattle.footprint.proofs.Table.{boxed_apart}
+use Rattle.footprint.proofs.Table.{all_apart}
 use Rattle.footprint.proofs.edges.Edges.shares.Goals as goal
 use Rattle.footprint.proofs.edges.Edges.shares.Goals.{After-apart}
 
@@ -22,7 +22,7 @@ told r i j d e f = rw (d, e, f)
 
 -- by the boxes of the table
 boxes : (c : After-apart) → c.apart.result ≡ apart_edges (ring c.args.self.corners.list.now) c.args.i c.args.j
-boxes c = c.apart.ensures ∙ boxed_apart (ring c.args.self.corners.list.now) _ _ c.args.i c.args.j _ _ c.args.self.tabled.boxed c.requires.0 c.requires.1
+boxes c = c.apart.ensures ∙ all_apart (ring c.args.self.corners.list.now) _ _ c.args.i c.args.j _ _ c.args.self.tabled.boxed c.requires.0 c.requires.1
 
 pub returns-then-not-aside : goal.returns-then-not-aside
 returns-then-not-aside c =
