@@ -12,6 +12,7 @@ use lib.ListN.{length, get_or, take, drop, drop_of_length-le, length-drop}
 use lib.Seq.{drop-cons, drop-drop, length-take-le}
 use lib.Pointwise.{pointwise}
 use Rattle.std.proofs.Common.{nat_eq}
+use Rattle.std.specs.List.{list_any}
 use Rattle.whole.proofs.Flag.{decided, and_yes}
 use Rattle.line.specs.Text.{blank, joined, parts, filled, words}
 use Rattle.line.specs.Line.{same, among, passed_words}
@@ -193,8 +194,13 @@ same_is_pointwise [] (c ∷ v) = refl
 same_is_pointwise (b ∷ w) [] = refl
 same_is_pointwise (b ∷ w) (c ∷ v) = ap₂ (λ (x y : Bool). x && y) (eqb_turned b c) (same_is_pointwise w v)
 
+pub among_is : (w : List ℕ) (vs : List (List ℕ)) → among w vs ≡ list_any (λ v. pointwise nat_eq v w) vs
+unfolding among
+among_is w [] = refl
+among_is w (v ∷ vs) = ap₂ (λ (x y : Bool). x || y) (same_is_pointwise w v) (among_is w vs)
+
 -- words of other lengths are others
-other_length : (w v : List ℕ) → (length w ≡ length v → ⊥) → same w v ≡ false
+pub other_length : (w v : List ℕ) → (length w ≡ length v → ⊥) → same w v ≡ false
 unfolding same
 other_length [] [] h = absurd (h refl)
 other_length [] (c ∷ v) h = refl
