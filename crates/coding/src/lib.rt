@@ -75,12 +75,15 @@ impl Code for usize {
     }
 }
 
-// A verdict: C has no Option, and is told what an entry and a lent list have for it.
+// A verdict: C has no Option, and is told what an entry and a lent list have for it, by the function that makes it for them.
 impl Code for Option<u32> {
     ghost means = { mark_means };
 
     fn code(self) -> u64 {
-        coded(Ok(self)).code()
+        match coded(Ok(self)) {
+            Ok(c) => u64::from(c),
+            Err(x) => x.code(),
+        }
     }
 }
 
