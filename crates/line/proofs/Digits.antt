@@ -116,6 +116,10 @@ digits_yes w h e = rw (not_empty w h, e)
 pub digits_no : (w : List ℕ) → all_digits w ≡ false → digits w ≡ false
 digits_no w e = rw e (and-false (not (empty w)))
 
+-- a byte that is no digit ends them
+pub digits_end : (w : List ℕ) (i : ℕ) → i < length w → all_digits w ≡ all_digits (drop i w) → digit (get_or w i 0) ≡ false → digits w ≡ false
+digits_end w i h d e = digits_no w (d ∙ no_digit w i h e)
+
 -- ---- one to nine
 pub few_long : (w : List ℕ) → 9 < length w → few w ≡ false
 few_long w h = rw (lt-leb (length w) 9 h) (and-false (digits w))

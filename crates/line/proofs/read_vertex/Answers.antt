@@ -23,11 +23,13 @@ no_z x h z (w ∷ ws) e = refl
 
 pub returns-in_err-decimal : goal.returns-in_err-decimal
 returns-in_err-decimal c =
+    let x = c.in_ok-x in let h = c.in_ok-height in
     let e = missing _ _ c.in_err-decimal.ensures in
-    c.from_residual-in_err-decimal.ensures ∙ rw (taken_words _ _ _ c.in_ok-x.ensures, taken_words _ _ _ c.in_ok-height.ensures) (sym (no_height c.in_ok-x.x.now c.in_ok-height.height.now (words c.in_ok-height.rest.now) e))
+    c.from_residual-in_err-decimal.ensures ∙ rw (taken_words _ _ _ x.ensures, taken_words _ _ _ h.ensures) (sym (no_height x.x.now h.height.now (words h.rest.now) e))
 
 pub returns-in_err-y : goal.returns-in_err-y
 returns-in_err-y c =
+    let x = c.in_ok-x in let h = c.in_ok-height in let z = c.in_ok-z in
     let e = missing _ _ c.in_err-y.ensures in
-    c.from_residual-in_err-y.ensures ∙ rw (taken_words _ _ _ c.in_ok-x.ensures, taken_words _ _ _ c.in_ok-height.ensures, taken_words _ _ _ c.in_ok-z.ensures)
-    (sym (no_z c.in_ok-x.x.now c.in_ok-height.height.now c.in_ok-z.z.now (words c.in_ok-z.rest.now) e))
+    c.from_residual-in_err-y.ensures ∙ rw (taken_words _ _ _ x.ensures, taken_words _ _ _ h.ensures, taken_words _ _ _ z.ensures)
+    (sym (no_z x.x.now h.height.now z.z.now (words z.rest.now) e))

@@ -1,16 +1,15 @@
 -- `line::decimal::few` meets its contract: the bytes passed are digits, and what they say and those left make the number. Assumes nothing.
 use mathlib.Core.Path.{◌≡◌, sym, ap, ◌∙◌}
-use mathlib.Core.Bool.{false}
 use mathlib.Core.List.{List, []}
 use Prim.Native.Nat.{ℕ, ◌+◌, ◌*◌, ◌-◌, ◌^◌, ◌≤◌, ◌<◌}
 use native.Mathlib.Omega.{arith}
 use borrow.Author.Tests.{le-leb, eqb-false}
 use lib.ListN.{length, get_or, drop, drop_of_length-le}
-use Rattle.std.proofs.Common.{Some, None}
+use Rattle.std.proofs.Common.{Some}
 use Rattle.line.specs.Number.{digit, all_digits, amount, number}
 use Rattle.line.specs.Steps.{few_or}
 use Rattle.line.proofs.Told.{given, missing}
-use Rattle.line.proofs.Digits.{digit_small, next_digit, no_digit, next_amount, pow_more, pow_most, digits_yes, digits_no}
+use Rattle.line.proofs.Digits.{digit_small, next_digit, next_amount, pow_more, pow_most, digits_yes, digits_end}
 use Rattle.line.proofs.decimal.few.Goals as goal
 
 -- what was read is of eight digits at most
@@ -20,14 +19,10 @@ few_read n i h g = omega (arith, pow_most i 8 (omega arith))
 pub overflow_mul-n : goal.overflow_mul-n
 overflow_mul-n c = omega (arith, few_read c.loop-b.n c.loop-b.b-index c.loop-b.invariant.small (omega arith))
 
--- a byte that is no digit
-stops : (w : List ℕ) (i : ℕ) → i < length w → all_digits w ≡ all_digits (drop i w) → digit (get_or w i 0) ≡ false → None ≡ few_or w
-stops w i h d e = rw (digits_no w (d ∙ no_digit w i h e))
-
 pub returns-in_err-n : goal.returns-in_err-n
 returns-in_err-n c =
     let e = missing _ _ c.in_err-n.ensures in
-    c.from_residual.ensures ∙ stops c.args.w.now c.loop-b.b-index c.loop-b-test.true c.loop-b.invariant.digits e
+    c.from_residual.ensures ∙ rw (digits_end c.args.w.now c.loop-b.b-index c.loop-b-test.true c.loop-b.invariant.digits e)
 
 pub loop-b-preserved : goal.loop-b-preserved
 loop-b-preserved c =
